@@ -16,11 +16,12 @@ use Rattle.gg_flat.specs.Line.{value_at, shape_at, HasType, IsSource}
 use Rattle.gg_flat.specs.Circuit.{FlatCircuit, signal_shapes, driver_at, readers_at, latency_at, reader_at}
 use Rattle.gg_flat.specs.WellFormed.{IsWellFormed, IsDataOf, MayDrive, IsRegister, IsMemory, IsClock, IsClockedMemory, AreDriven, reader_driver}
 use Rattle.gg_flat.proofs.ListLemmas.{some-item}
-use Rattle.gg_part.specs.Part.{IsPart, IsFrom, in_whole, renamed_line, renamed_register, renamed_reader, renamed_writer, renamed_memory}
+use Rattle.gg_part.specs.Part.{IsPart, IsFrom, in_whole}
 use Rattle.gg_flat.proofs.RenamedLineLaws.{source-there}
 use Rattle.gg_flat.proofs.RenamedLaws.{register-there, memory-there}
 use Rattle.gg_part.proofs.RunLemmas.{shape-part, length-shapes}
 use Rattle.gg_bridge.proofs.ClockLemmas.{AreAmong}
+use Rattle.gg_flat.specs.Renaming.{renamed_line, renamed_memory, renamed_reader, renamed_register, renamed_writer}
 
 module _ (whole part : FlatCircuit) (globals held memories : List ℕ) (clocks : List (Option ℕ)) (is : IsPart whole part globals held memories clocks) where
   pub lift-type : (s : ℕ) (sh : Shape) → HasType (signal_shapes part) s sh → HasType (signal_shapes whole) (value_at globals s) sh
@@ -28,12 +29,12 @@ module _ (whole part : FlatCircuit) (globals held memories : List ℕ) (clocks :
       let low : s < length globals = omega (arith, typed.0, length-shapes whole part globals held memories clocks is) in
       (omega (arith, is.within s low, length-map whole.signals (λ signal. shape signal.ty)), sym (shape-part whole part globals held memories clocks is s low) ∙ typed.1)
 
-  pub lift-source : (sink : Shape) (line : List Node) → IsSource (HasType (signal_shapes part)) sink line → IsSource (HasType (signal_shapes whole)) sink (renamed_line globals line)
+  pub lift-source : (sink : Shape) (line : List Node) → IsSource (HasType (signal_shapes part)) sink line → IsSource (HasType (signal_shapes whole)) sink (renamed_line (value_at globals) line)
   lift-source sink line source = source-there (value_at globals) (HasType (signal_shapes part)) (HasType (signal_shapes whole)) sink line (λ s named. lift-type s) source
 
   -- ---- registers
 
-  register-lifted : (register : Register) → IsRegister (HasType (signal_shapes part)) register → IsRegister (HasType (signal_shapes whole)) (renamed_register globals clocks register)
+  register-lifted : (register : Register) → IsRegister (HasType (signal_shapes part)) register → IsRegister (HasType (signal_shapes whole)) (renamed_register (in_whole globals clocks) register)
   register-lifted register typed = register-there (in_whole globals clocks) (HasType (signal_shapes part)) (HasType (signal_shapes whole)) register (λ s named. lift-type s) typed
 
   pub lift-register : IsWellFormed part → (r : ℕ) (any : Register) → r < length held → IsRegister (HasType (signal_shapes whole)) (get_or whole.registers (value_at held r) any)
@@ -69,19 +70,19 @@ module _ (whole part : FlatCircuit) (globals held memories : List ℕ) (clocks :
       let typed = (is.memory_from m lt).clocked some in
       subst (IsClockedMemory whole.clocks) (sym ((is.memory_from m lt).is some any))
       (record {
-        readers = All-map (λ (reader : Reader). IsClock whole.clocks reader.clock) (λ reader. renamed_reader globals clocks reader) memory.readers (λ k d low. among (get_or memory.readers k d).clock (typed.readers k d low));
-        writers = All-map (λ (writer : Writer). IsClock whole.clocks writer.clock) (λ writer. renamed_writer globals clocks writer) memory.writers (λ k d low. among (get_or memory.writers k d).clock (typed.writers k d low));
+        readers = All-map (λ (reader : Reader). IsClock whole.clocks reader.clock) (λ reader. renamed_reader (in_whole globals clocks) reader) memory.readers (λ k d low. among (get_or memory.readers k d).clock (typed.readers k d low));
+        writers = All-map (λ (writer : Writer). IsClock whole.clocks writer.clock) (λ writer. renamed_writer (in_whole globals clocks) writer) memory.writers (λ k d low. among (get_or memory.writers k d).clock (typed.writers k d low));
       })
 
-  readers-whole : (m : ℕ) → m < length memories → readers_at whole (value_at memories m) ≡ map (λ reader. renamed_reader globals clocks reader) (readers_at part m)
+  readers-whole : (m : ℕ) → m < length memories → readers_at whole (value_at memories m) ≡ map (λ reader. renamed_reader (in_whole globals clocks) reader) (readers_at part m)
   readers-whole m lt =
       let inside : m < length part.memories = omega (arith, lt, is.memory_count) in
       let some = some-item part.memories m inside in
       let local = get_or part.memories m some in
       let at = is.memory_from m lt in
-      get_or-map (λ (k : Memory). k.readers) whole.memories (value_at memories m) (renamed_memory globals clocks local) [] at.within
-      ∙ ap (λ (k : Memory). k.readers) (at.is some (renamed_memory globals clocks local))
-      ∙ ap (map (λ reader. renamed_reader globals clocks reader)) (sym (get_or-map (λ (k : Memory). k.readers) part.memories m some [] inside))
+      get_or-map (λ (k : Memory). k.readers) whole.memories (value_at memories m) (renamed_memory (in_whole globals clocks) local) [] at.within
+      ∙ ap (λ (k : Memory). k.readers) (at.is some (renamed_memory (in_whole globals clocks) local))
+      ∙ ap (map (λ reader. renamed_reader (in_whole globals clocks) reader)) (sym (get_or-map (λ (k : Memory). k.readers) part.memories m some [] inside))
 
   latency-whole : (m : ℕ) → m < length memories → latency_at whole (value_at memories m) ≡ latency_at part m
   latency-whole m lt =
@@ -89,17 +90,17 @@ module _ (whole part : FlatCircuit) (globals held memories : List ℕ) (clocks :
       let some = some-item part.memories m inside in
       let local = get_or part.memories m some in
       let at = is.memory_from m lt in
-      get_or-map (λ (k : Memory). k.latency) whole.memories (value_at memories m) (renamed_memory globals clocks local) Zero at.within
-      ∙ ap (λ (k : Memory). k.latency) (at.is some (renamed_memory globals clocks local))
+      get_or-map (λ (k : Memory). k.latency) whole.memories (value_at memories m) (renamed_memory (in_whole globals clocks) local) Zero at.within
+      ∙ ap (λ (k : Memory). k.latency) (at.is some (renamed_memory (in_whole globals clocks) local))
       ∙ sym (get_or-map (λ (k : Memory). k.latency) part.memories m some Zero inside)
 
   count-whole : (m : ℕ) → m < length memories → length (readers_at whole (value_at memories m)) ≡ length (readers_at part m)
-  count-whole m lt = ap length (readers-whole m lt) ∙ length-map (readers_at part m) (λ reader. renamed_reader globals clocks reader)
+  count-whole m lt = ap length (readers-whole m lt) ∙ length-map (readers_at part m) (λ reader. renamed_reader (in_whole globals clocks) reader)
 
-  reader-whole : (m r : ℕ) → m < length memories → r < length (readers_at part m) → reader_at (readers_at whole (value_at memories m)) r ≡ renamed_reader globals clocks (reader_at (readers_at part m) r)
+  reader-whole : (m r : ℕ) → m < length memories → r < length (readers_at part m) → reader_at (readers_at whole (value_at memories m)) r ≡ renamed_reader (in_whole globals clocks) (reader_at (readers_at part m) r)
   reader-whole m r lt inside =
       let none : Reader = record { addr = 0; en = 0; word = 0; clock = None } in
-      ap (λ readers. reader_at readers r) (readers-whole m lt) ∙ get_or-map (λ reader. renamed_reader globals clocks reader) (readers_at part m) r none none inside
+      ap (λ readers. reader_at readers r) (readers-whole m lt) ∙ get_or-map (λ reader. renamed_reader (in_whole globals clocks) reader) (readers_at part m) r none none inside
 
   -- ---- drivers
 
@@ -126,7 +127,7 @@ module _ (whole part : FlatCircuit) (globals held memories : List ℕ) (clocks :
   lift-drive s outer (ReadRegister m r) lt other from may = subst (MayDrive whole (value_at globals s)) (sym from.1) (data-whole m r s from.0 may)
   lift-drive s outer (Computed line) lt other from may =
       subst (MayDrive whole (value_at globals s)) (sym from.1)
-      (subst (λ sink. IsSource (HasType (signal_shapes whole)) sink (renamed_line globals line)) (shape-part whole part globals held memories clocks is s lt) (lift-source (shape_at (signal_shapes part) s) line may))
+      (subst (λ sink. IsSource (HasType (signal_shapes whole)) sink (renamed_line (value_at globals) line)) (shape-part whole part globals held memories clocks is s lt) (lift-source (shape_at (signal_shapes part) s) line may))
 
   pub lift-driver : IsWellFormed part → (s : ℕ) → s < length globals → ((place : ℕ) → driver_at part s ≢ Input place) → MayDrive whole (value_at globals s) (driver_at whole (value_at globals s))
   lift-driver formed s lt other =
@@ -134,7 +135,7 @@ module _ (whole part : FlatCircuit) (globals held memories : List ℕ) (clocks :
 
   -- ---- the data of readers
 
-  driven-whole : (latency : Latency) (m r s : ℕ) (outer : Driver) (reader : Reader) → IsFrom part.ins globals held memories s outer (reader_driver latency m r reader) → outer ≡ reader_driver latency (value_at memories m) r (renamed_reader globals clocks reader)
+  driven-whole : (latency : Latency) (m r s : ℕ) (outer : Driver) (reader : Reader) → IsFrom part.ins globals held memories s outer (reader_driver latency m r reader) → outer ≡ reader_driver latency (value_at memories m) r (renamed_reader (in_whole globals clocks) reader)
   driven-whole Zero m r s outer reader from = from.3
   driven-whole (Late under) m r s outer reader from = from.1
 

@@ -22,6 +22,9 @@
 //! Units that the plan puts onto one host share it: they have one piece, so it has one program, and a thread for each of
 //! them, with the ratios of its own clocks. Each other machine has a host of its own. Except for the programs of units
 //! (gg_program), time and memory are linear in the plan, its pieces and the trace, and for bridges in what is handed in.
+//!
+//! `plan` has laws of the network of a plan: it is wired, has no ring, and is solved by a run of the circuit that it
+//! computes.
 #![tactic(auto)]
 
 mod begin;
@@ -31,6 +34,7 @@ mod hosts;
 mod node;
 mod opening;
 mod placement;
+mod plan;
 mod ports;
 mod starts;
 mod units;
@@ -40,9 +44,6 @@ pub use begin::Begin;
 pub use node::Node;
 pub use opening::{build, build_from};
 pub use placement::{Placement, placement_of};
-
-mod plan;
-
 pub use plan::{
     all_begin_with_zeros, bridge_is_attached, columns_solve, machines_are_opening,
     memory_is_chosen, one_layout, plan_has_layout, plan_has_no_ring, plan_is_listed,

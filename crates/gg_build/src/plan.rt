@@ -7,7 +7,7 @@
 //! in its part of the state, with the ratios of its own clocks, and a bridge's model with zeros. A channel with a
 //! pipe opens with the token that the pipe's register holds, the others open empty. So the network computes the
 //! reference circuit with the models of the bridges in it, which is gg_cut_reference's circuit. Without bridges it is the
-//! reference circuit. The crate has laws alone: its functions compute nothing. For the plan of a design and of a
+//! reference circuit. Its functions are laws: they compute nothing. For the plan of a design and of a
 //! request without a fault, and for such machines, it promises:
 //!
 //! - a machine has an in or an out for each channel that the plan lists for it, and the channel is connected there

@@ -12,18 +12,18 @@
 //! (`machines`); gg_cut_machines puts the bridges among them.
 //!
 //! The time that `cut` takes is that of gg_cut_split, gg_cut_routes, gg_part, gg_order and gg_cut_machines, and otherwise linear.
+//!
+//! `existence` has the law that each request without a fault has a plan.
 #![tactic(auto)]
 
 mod build;
 mod capacities;
 mod channels;
+mod existence;
 mod judged;
 mod machines;
 mod needs;
 mod shares;
 
 pub use build::{cut, deps};
-
-mod existence;
-
 pub use existence::each_has_plan;

@@ -20,7 +20,6 @@ use Rattle.gg_flat.proofs.ListLemmas.{some-item}
 use Rattle.gg_flat_tree.proofs.TopClockLemmas.{top_clocks-step}
 use Rattle.gg_part.specs.Copies.{above}
 use Rattle.gg_part.specs.KeepsToTree.{KeepsToTree}
-use Rattle.gg_part.specs.Moved.{moved_driver}
 use Rattle.gg_order.specs.Design.{Ordered}
 use Rattle.gg_order.specs.Marks.{is_marked}
 use Rattle.gg_part.specs.declared.part.Clocking.{Clocking}
@@ -42,6 +41,7 @@ use Rattle.gg_cut_split.proofs.AgainLemmas.LiesLemmas.{lies-in, owner-in}
 use Rattle.gg_cut_split.proofs.AgainLemmas.UnitSignalLemmas.{IsAtUnit, at-held, end-at, inner-held}
 use Rattle.gg_cut_parts.specs.Domains.{AreUnitClocks, AreWholeClocks}
 use Rattle.gg_cut_parts.proofs.TableLemmas.{clocks-length, held-known, led-on, port-leads}
+use Rattle.gg_flat.specs.Renaming.{numbers_by, renamed_driver}
 
 -- ---- clocks that are themselves
 
@@ -261,7 +261,7 @@ module _ (design : Ordered) (listed : Listed) (keeps : KeepsToTree design.circui
   pub register-same : (s r : ℕ) → Makes design.circuit design.tree listed (cut_wires design listed) m s → driver_at design.circuit s ≡ Held r → get_or clocking.registers (again.registers r) None ≡ get_or clocking.registers r None
   register-same s r makes held =
       let t = again_at design listed m n s in
-      let driven : driver_at design.circuit t ≡ Held (again.registers r) = again.driver s makes ∙ ap (moved_driver (again_at design listed m n) again.registers again.memories) held in
+      let driven : driver_at design.circuit t ≡ Held (again.registers r) = again.driver s makes ∙ ap (renamed_driver (numbers_by (again_at design listed m n) again.registers again.memories)) held in
       let known = driver-known design.circuit t (again.registers r) driven in
       let at = innermost design.circuit design.tree keeps.fitting t known in
       let there = again.register_clock (is_marked is.marks) s r (get_or clocking.registers r None) is.homes makes held (is.register s r (driver-known design.circuit s r held) held) in

@@ -19,7 +19,7 @@ use Rattle.gg_flat.specs.Reads.{NamesSignal}
 use Rattle.gg_flat.specs.WellFormed.{IsClock, IsClockedMemory}
 use Rattle.gg_flat.proofs.ListLemmas.{once-apart, Contains-map}
 use Rattle.gg_part.specs.KeepsToTree.{KeepsToTree}
-use Rattle.gg_part.specs.Moved.{moved_driver, unclocked_reader, unclocked_register, unclocked_memory, unclocked_writer}
+use Rattle.gg_part.specs.Moved.{unclocked_reader, unclocked_register, unclocked_memory, unclocked_writer}
 use Rattle.gg_part.proofs.MovedLemmas.{from-moved}
 use Rattle.gg_order.specs.Design.{Ordered}
 use Rattle.gg_part.specs.declared.part.Clocking.{Clocking}
@@ -27,7 +27,7 @@ use Rattle.gg_part.specs.declared.part.Part.{Part}
 use Rattle.gg_part.specs.Building.{Holds, AreHeld}
 use Rattle.gg_part.specs.Clocking.{AreTimed, IsTimed, LeadsTo, PortsFollow, clocks_of_ports}
 use Rattle.gg_flat.specs.InOrder.{IsInOrder}
-use Rattle.gg_part.specs.Part.{IsPart, IsFrom, IsRegisterFrom, IsMemoryFrom, RegisterBelow, MemoryBelow, renamed_reader, renamed_register, renamed_memory, renamed_writer}
+use Rattle.gg_part.specs.Part.{IsPart, IsFrom, IsRegisterFrom, IsMemoryFrom, RegisterBelow, MemoryBelow, in_whole}
 use Rattle.gg_cut_plan.specs.declared.listed.Listed.{Listed}
 use Rattle.gg_cut_plan.specs.Alike.{IsAlike}
 use Rattle.gg_cut_plan.specs.Plan.{channels_to, signals_of, Takes, HasMemory, machine_clocks}
@@ -37,6 +37,7 @@ use Rattle.gg_cut_parts.specs.Domains.{AreUnitClocks}
 use Rattle.gg_cut_parts.proofs.DomainTimes.{register-same, ports-same}
 use Rattle.gg_cut_parts.specs.MovedPart.{IsUnitPart, IsUnitShare, AreGivens, IsMovedPiece, IsMovedPart}
 use Rattle.gg_cut_parts.proofs.MovedUnitLemmas.{among-has, counterpart-one, counterparts-once, counterpart-driver, has-memory, held-by, registers-within, register-there, memories-within, memory-there, counterparts-within, counterpart-of}
+use Rattle.gg_flat.specs.Renaming.{numbers_by, renamed_driver, renamed_memory, renamed_reader, renamed_register, renamed_writer}
 
 -- ---- things that are one but for clocks
 
@@ -62,30 +63,30 @@ fronts-same xs us ys vs count e = sym (take-append_seam xs ys) ∙ ap₂ (λ n l
 backs-same : {Y : Type 0} (xs us ys vs : List Y) → length xs ≡ length us → xs ++ ys ≡ us ++ vs → ys ≡ vs
 backs-same xs us ys vs count e = sym (drop-append_seam xs ys) ∙ ap₂ (λ n l. drop n l) count e ∙ drop-append_seam us vs
 
-register-led : (globals : List ℕ) (other clocks : List (Option ℕ)) (own there : Register) → unclocked_register there ≡ unclocked_register (renamed_register globals other own) → there.clock ≡ clock_at clocks own.clock → there ≡ renamed_register globals clocks own
+register-led : (globals : List ℕ) (other clocks : List (Option ℕ)) (own there : Register) → unclocked_register there ≡ unclocked_register (renamed_register (in_whole globals other) own) → there.clock ≡ clock_at clocks own.clock → there ≡ renamed_register (in_whole globals clocks) own
 register-led globals other clocks own there e f =
     ap (λ (r : Register). let c : Register = record r { clock = there.clock } in c) e
-    ∙ ap (λ (clock : Option ℕ). let c : Register = record (renamed_register globals clocks own) { clock = clock } in c) f
+    ∙ ap (λ (clock : Option ℕ). let c : Register = record (renamed_register (in_whole globals clocks) own) { clock = clock } in c) f
 
-module _ (globals : List ℕ) (other clocks : List (Option ℕ)) (own there : Memory) (e : unclocked_memory there ≡ unclocked_memory (renamed_memory globals other own)) where
+module _ (globals : List ℕ) (other clocks : List (Option ℕ)) (own there : Memory) (e : unclocked_memory there ≡ unclocked_memory (renamed_memory (in_whole globals other) own)) where
   abbrev made : Memory → List Reader → List Writer → Memory
   made m readers writers = record { word = m.word; depth = m.depth; latency = m.latency; readers = readers; writers = writers }
 
-  readers-plain : map (λ reader. unclocked_reader reader) there.readers ≡ map (λ reader. unclocked_reader reader) (map (λ reader. renamed_reader globals other reader) own.readers)
+  readers-plain : map (λ reader. unclocked_reader reader) there.readers ≡ map (λ reader. unclocked_reader reader) (map (λ reader. renamed_reader (in_whole globals other) reader) own.readers)
   readers-plain = ap (λ (m : Memory). m.readers) e
 
-  writers-plain : map (λ writer. unclocked_writer writer) there.writers ≡ map (λ writer. unclocked_writer writer) (map (λ writer. renamed_writer globals other writer) own.writers)
+  writers-plain : map (λ writer. unclocked_writer writer) there.writers ≡ map (λ writer. unclocked_writer writer) (map (λ writer. renamed_writer (in_whole globals other) writer) own.writers)
   writers-plain = ap (λ (m : Memory). m.writers) e
 
   readers-count : length there.readers ≡ length own.readers
   readers-count =
       sym (length-map there.readers (λ (reader : Reader). unclocked_reader reader)) ∙ ap length readers-plain
-      ∙ length-map (map (λ (reader : Reader). renamed_reader globals other reader) own.readers) (λ (reader : Reader). unclocked_reader reader) ∙ length-map own.readers (λ (reader : Reader). renamed_reader globals other reader)
+      ∙ length-map (map (λ (reader : Reader). renamed_reader (in_whole globals other) reader) own.readers) (λ (reader : Reader). unclocked_reader reader) ∙ length-map own.readers (λ (reader : Reader). renamed_reader (in_whole globals other) reader)
 
   writers-count : length there.writers ≡ length own.writers
   writers-count =
       sym (length-map there.writers (λ (writer : Writer). unclocked_writer writer)) ∙ ap length writers-plain
-      ∙ length-map (map (λ (writer : Writer). renamed_writer globals other writer) own.writers) (λ (writer : Writer). unclocked_writer writer) ∙ length-map own.writers (λ (writer : Writer). renamed_writer globals other writer)
+      ∙ length-map (map (λ (writer : Writer). renamed_writer (in_whole globals other) writer) own.writers) (λ (writer : Writer). unclocked_writer writer) ∙ length-map own.writers (λ (writer : Writer). renamed_writer (in_whole globals other) writer)
 
   pub ports-count : length (clocks_of_ports there) ≡ length (clocks_of_ports own)
   ports-count =
@@ -94,24 +95,24 @@ module _ (globals : List ℕ) (other clocks : List (Option ℕ)) (own there : Me
       (length-map there.writers (λ (w : Writer). w.clock) ∙ writers-count ∙ sym (length-map own.writers (λ (w : Writer). w.clock)))
       ∙ sym (length-append (map (λ (r : Reader). r.clock) own.readers) (map (λ (w : Writer). w.clock) own.writers))
 
-  reader-same : (a b : Reader) → unclocked_reader b ≡ unclocked_reader (renamed_reader globals other a) → b.clock ≡ clock_at clocks a.clock → b ≡ renamed_reader globals clocks a
+  reader-same : (a b : Reader) → unclocked_reader b ≡ unclocked_reader (renamed_reader (in_whole globals other) a) → b.clock ≡ clock_at clocks a.clock → b ≡ renamed_reader (in_whole globals clocks) a
   reader-same a b h f =
       ap (λ (r : Reader). let c : Reader = record r { clock = b.clock } in c) h
-      ∙ ap (λ (clock : Option ℕ). let c : Reader = record (renamed_reader globals clocks a) { clock = clock } in c) f
+      ∙ ap (λ (clock : Option ℕ). let c : Reader = record (renamed_reader (in_whole globals clocks) a) { clock = clock } in c) f
 
-  writer-same : (a b : Writer) → unclocked_writer b ≡ unclocked_writer (renamed_writer globals other a) → b.clock ≡ clock_at clocks a.clock → b ≡ renamed_writer globals clocks a
+  writer-same : (a b : Writer) → unclocked_writer b ≡ unclocked_writer (renamed_writer (in_whole globals other) a) → b.clock ≡ clock_at clocks a.clock → b ≡ renamed_writer (in_whole globals clocks) a
   writer-same a b h f =
       ap (λ (r : Writer). let c : Writer = record r { clock = b.clock } in c) h
-      ∙ ap (λ (clock : Option ℕ). let c : Writer = record (renamed_writer globals clocks a) { clock = clock } in c) f
+      ∙ ap (λ (clock : Option ℕ). let c : Writer = record (renamed_writer (in_whole globals clocks) a) { clock = clock } in c) f
 
   -- a memory that is another but for its clocks, which are led on, is that one with other names
-  pub memory-led : clocks_of_ports there ≡ map (clock_at clocks) (clocks_of_ports own) → there ≡ renamed_memory globals clocks own
+  pub memory-led : clocks_of_ports there ≡ map (clock_at clocks) (clocks_of_ports own) → there ≡ renamed_memory (in_whole globals clocks) own
   memory-led led =
       ap (λ (m : Memory). made m there.readers there.writers) e
-      ∙ ap₂ (made (renamed_memory globals clocks own))
-      (all-led (λ (r : Reader). unclocked_reader r) (λ r. renamed_reader globals other r) (λ r. renamed_reader globals clocks r) (λ (r : Reader). r.clock) (clock_at clocks) reader-same own.readers there.readers readers-plain
+      ∙ ap₂ (made (renamed_memory (in_whole globals clocks) own))
+      (all-led (λ (r : Reader). unclocked_reader r) (λ r. renamed_reader (in_whole globals other) r) (λ r. renamed_reader (in_whole globals clocks) r) (λ (r : Reader). r.clock) (clock_at clocks) reader-same own.readers there.readers readers-plain
       (fronts-same (map (λ (r : Reader). r.clock) there.readers) (map (clock_at clocks) (map (λ (r : Reader). r.clock) own.readers)) (map (λ (w : Writer). w.clock) there.writers) (map (clock_at clocks) (map (λ (w : Writer). w.clock) own.writers)) count joined))
-      (all-led (λ (w : Writer). unclocked_writer w) (λ w. renamed_writer globals other w) (λ w. renamed_writer globals clocks w) (λ (w : Writer). w.clock) (clock_at clocks) writer-same own.writers there.writers writers-plain
+      (all-led (λ (w : Writer). unclocked_writer w) (λ w. renamed_writer (in_whole globals other) w) (λ w. renamed_writer (in_whole globals clocks) w) (λ (w : Writer). w.clock) (clock_at clocks) writer-same own.writers there.writers writers-plain
       (backs-same (map (λ (r : Reader). r.clock) there.readers) (map (clock_at clocks) (map (λ (r : Reader). r.clock) own.readers)) (map (λ (w : Writer). w.clock) there.writers) (map (clock_at clocks) (map (λ (w : Writer). w.clock) own.writers)) count joined))
     where
       count : length (map (λ (r : Reader). r.clock) there.readers) ≡ length (map (clock_at clocks) (map (λ (r : Reader). r.clock) own.readers))
@@ -198,7 +199,7 @@ module _ (design : Ordered) (listed : Listed) (clocking : Clocking) (m n : ℕ) 
   taken-there s c = subst (λ (l : List ℕ). Contains l (to s)) (sym again.ins) (Contains-map to (signals_of (cut_wires design listed) (channels_to (cut_wires design listed) m)) s c)
 
   -- which register a driver is that of, by its counterpart
-  held-back : (d : Driver) (r : ℕ) → moved_driver to again.registers again.memories d ≡ Held r → (k : ℕ) × (d ≡ Held k) × (again.registers k ≡ r)
+  held-back : (d : Driver) (r : ℕ) → renamed_driver (numbers_by to again.registers again.memories) d ≡ Held r → (k : ℕ) × (d ≡ Held k) × (again.registers k ≡ r)
   held-back (Input place) r e = absurd (cc)
   held-back (Held k) r e = (k, refl, cc)
   held-back (MemoryWord a b c d) r e = absurd (cc)
@@ -230,7 +231,7 @@ module _ (design : Ordered) (listed : Listed) (clocking : Clocking) (m n : ℕ) 
     where
       at-made : (s k r : ℕ) → HasSignal design listed m s → ¬ Takes (cut_wires design listed) m s → driver_at design.circuit s ≡ Held k → again.registers k ≡ r → driver_at design.circuit (to s) ≡ Held r
       at-made s k r (inr taken) own is e = absurd (own taken)
-      at-made s k r (inl made) own is e = again.driver s made ∙ ap (moved_driver to again.registers again.memories) is ∙ ap Held e
+      at-made s k r (inl made) own is e = again.driver s made ∙ ap (renamed_driver (numbers_by to again.registers again.memories)) is ∙ ap Held e
 
       by : (r s : ℕ) → Contains leader.globals s → Holds design.circuit (signals_of (cut_wires design listed) (channels_to (cut_wires design listed) n)) (to s) r → HasSignal design listed m s → Contains (map again.registers leader.held) r
       by r s among holds (inr taken) = absurd (holds.inside (taken-there s taken))
@@ -278,7 +279,7 @@ module _ (design : Ordered) (listed : Listed) (clocking : Clocking) (m n : ℕ) 
           is = λ any other.
               ap (λ (k : ℕ). get_or design.circuit.registers k other) at
               ∙ register-led globals leader.clocks clocks (get_or leader.piece.registers r other) (get_or design.circuit.registers (again.registers (value_at leader.held r)) other) (register-there design listed clocking m n leader again own_givens cut r other other lt) (sym (register-led-on r other lt).leads)
-              ∙ ap (λ (x : Register). renamed_register globals clocks x) (same any other);
+              ∙ ap (λ (x : Register). renamed_register (in_whole globals clocks) x) (same any other);
           below = λ any.
               subst (λ (x : Register). RegisterBelow (length globals) x) (same any any)
               (λ t names. let old = (cut.is.register_from r lt).below any t names in omega (arith, old, length-map leader.globals to));
@@ -300,7 +301,7 @@ module _ (design : Ordered) (listed : Listed) (clocking : Clocking) (m n : ℕ) 
               ap (λ (j : ℕ). get_or design.circuit.memories j other) at
               ∙ memory-led globals leader.clocks clocks (get_or leader.piece.memories k other) (get_or design.circuit.memories (again.memories (value_at leader.memories k)) other) (memory-there design listed clocking m n leader again own_givens cut k other other lt)
               (ports-led clocks ports (get_or leader.piece.memories k other) (get_or design.circuit.memories (again.memories (value_at leader.memories k)) other) (cut.timed.port k other lt) (memory-count k other lt) (port-led-on k other lt))
-              ∙ ap (λ (x : Memory). renamed_memory globals clocks x) (same any other);
+              ∙ ap (λ (x : Memory). renamed_memory (in_whole globals clocks) x) (same any other);
           below = λ any. subst₂ (λ (w : ℕ) (x : Memory). MemoryBelow w x) wide (same any any) (from.below any);
           clocked = λ any.
               subst (λ (x : Memory). IsClockedMemory (length clocks) x) (same any any)

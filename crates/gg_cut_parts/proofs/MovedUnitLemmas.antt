@@ -9,18 +9,19 @@ use Rattle.gg_flat.specs.declared.piece.Register.{Register}
 use Rattle.gg_flat.specs.Circuit.{driver_at}
 use Rattle.gg_flat.specs.Line.{value_at}
 use Rattle.gg_flat.proofs.ListLemmas.{some-item, once-apart, Contains-map}
-use Rattle.gg_part.specs.Moved.{moved_driver, moved_register, moved_memory, unclocked_register, unclocked_memory}
+use Rattle.gg_part.specs.Moved.{unclocked_register, unclocked_memory}
 use Rattle.gg_part.proofs.MovedLemmas.{register-moved, memory-moved}
 use Rattle.gg_order.specs.Design.{Ordered}
 use Rattle.gg_part.specs.declared.part.Clocking.{Clocking}
 use Rattle.gg_part.specs.declared.part.Part.{Part}
 use Rattle.gg_part.specs.Building.{Holds}
-use Rattle.gg_part.specs.Part.{IsFrom, renamed_register, renamed_memory}
+use Rattle.gg_part.specs.Part.{IsFrom, in_whole}
 use Rattle.gg_cut_plan.specs.declared.listed.Listed.{Listed}
 use Rattle.gg_cut_plan.specs.Plan.{channels_to, signals_of, Makes, HasMemory}
 use Rattle.gg_cut_split.proofs.ClosedLemmas.ListLemmas.{map-cases, AllPairs-map}
 use Rattle.gg_cut_split.specs.again.Again.{IsUnitAgain, HasSignal, again_at, cut_wires, unit_first}
 use Rattle.gg_cut_parts.specs.MovedPart.{HoldAgain, IsUnitPart, IsUnitShare, AreGivens}
+use Rattle.gg_flat.specs.Renaming.{numbers_by, renamed_driver, renamed_memory, renamed_register, signals_by}
 
 module _ (design : Ordered) (listed : Listed) (clocking : Clocking) (m n : ℕ) (leader : Part) (again : IsUnitAgain design listed m n) (own_givens : List ℕ) (cut : IsUnitPart design listed clocking m own_givens leader) where
   -- ---- signals
@@ -59,7 +60,7 @@ module _ (design : Ordered) (listed : Listed) (clocking : Clocking) (m n : ℕ) 
 
   -- the counterpart of a signal has the counterpart of its driver, unless the part gets it from outside
   pub counterpart-driver : (s : ℕ) → s < length leader.globals → ((place : ℕ) → driver_at leader.piece s ≢ Input place)
-      → driver_at design.circuit (again_at design listed m n (value_at leader.globals s)) ≡ moved_driver (again_at design listed m n) again.registers again.memories (driver_at design.circuit (value_at leader.globals s))
+      → driver_at design.circuit (again_at design listed m n (value_at leader.globals s)) ≡ renamed_driver (numbers_by (again_at design listed m n) again.registers again.memories) (driver_at design.circuit (value_at leader.globals s))
   counterpart-driver s lt own = again.driver (value_at leader.globals s) (makes s lt own)
 
   -- the counterpart of a signal of the part that holds a register holds the register's counterpart
@@ -69,7 +70,7 @@ module _ (design : Ordered) (listed : Listed) (clocking : Clocking) (m n : ℕ) 
       let from = subst (IsFrom leader.piece.ins leader.globals leader.held leader.memories s (driver_at design.circuit (value_at leader.globals s))) e (cut.is.drivers s lt) in
       ap (driver_at design.circuit) (get_or-map (again_at design listed m n) leader.globals s 0 0 lt)
       ∙ counterpart-driver s lt (λ place i. let c : Held k ≡ Input place = sym e ∙ i in cc)
-      ∙ ap (moved_driver (again_at design listed m n) again.registers again.memories) from.1
+      ∙ ap (renamed_driver (numbers_by (again_at design listed m n) again.registers again.memories)) from.1
 
   -- ---- registers
 
@@ -88,7 +89,7 @@ module _ (design : Ordered) (listed : Listed) (clocking : Clocking) (m n : ℕ) 
 
   register-again : (r : ℕ) (any : Register) → r < length leader.held
       → (again.registers (value_at leader.held r) < length design.circuit.registers)
-      × (unclocked_register (get_or design.circuit.registers (again.registers (value_at leader.held r)) any) ≡ unclocked_register (moved_register (again_at design listed m n) (get_or design.circuit.registers (value_at leader.held r) any)))
+      × (unclocked_register (get_or design.circuit.registers (again.registers (value_at leader.held r)) any) ≡ unclocked_register (renamed_register (signals_by (again_at design listed m n)) (get_or design.circuit.registers (value_at leader.held r) any)))
   register-again r any lt =
       let h = held-by (value_at leader.held r) (Contains-get_or leader.held r 0 lt) in
       again.register h.signal (value_at leader.held r) any h.made h.is
@@ -100,11 +101,11 @@ module _ (design : Ordered) (listed : Listed) (clocking : Clocking) (m n : ℕ) 
       (register-again r (some-item design.circuit.registers (value_at leader.held r) (cut.is.register_from r lt).within) lt).0
 
   -- the counterpart of a register is the part's with other numbers, but for its clock
-  pub register-there : (r : ℕ) (any other : Register) → r < length leader.held → unclocked_register (get_or design.circuit.registers (again.registers (value_at leader.held r)) other) ≡ unclocked_register (renamed_register (map (again_at design listed m n) leader.globals) leader.clocks (get_or leader.piece.registers r any))
+  pub register-there : (r : ℕ) (any other : Register) → r < length leader.held → unclocked_register (get_or design.circuit.registers (again.registers (value_at leader.held r)) other) ≡ unclocked_register (renamed_register (in_whole (map (again_at design listed m n) leader.globals) leader.clocks) (get_or leader.piece.registers r any))
   register-there r any other lt =
       let from = cut.is.register_from r lt in
       (register-again r other lt).1
-      ∙ ap (λ (x : Register). unclocked_register (moved_register (again_at design listed m n) x)) (from.is any other)
+      ∙ ap (λ (x : Register). unclocked_register (renamed_register (signals_by (again_at design listed m n)) x)) (from.is any other)
       ∙ ap (λ (x : Register). unclocked_register x) (sym (register-moved (again_at design listed m n) leader.globals leader.clocks (get_or leader.piece.registers r any) (from.below any)))
 
   -- ---- memories
@@ -119,11 +120,11 @@ module _ (design : Ordered) (listed : Listed) (clocking : Clocking) (m n : ℕ) 
       (again.memory (value_at leader.memories k) (some-item design.circuit.memories (value_at leader.memories k) (cut.is.memory_from k lt).within) (has-memory k lt)).0
 
   -- the counterpart of a memory is the part's with other numbers, but for its clocks
-  pub memory-there : (k : ℕ) (any other : Memory) → k < length leader.memories → unclocked_memory (get_or design.circuit.memories (again.memories (value_at leader.memories k)) other) ≡ unclocked_memory (renamed_memory (map (again_at design listed m n) leader.globals) leader.clocks (get_or leader.piece.memories k any))
+  pub memory-there : (k : ℕ) (any other : Memory) → k < length leader.memories → unclocked_memory (get_or design.circuit.memories (again.memories (value_at leader.memories k)) other) ≡ unclocked_memory (renamed_memory (in_whole (map (again_at design listed m n) leader.globals) leader.clocks) (get_or leader.piece.memories k any))
   memory-there k any other lt =
       let from = cut.is.memory_from k lt in
       (again.memory (value_at leader.memories k) other (has-memory k lt)).1
-      ∙ ap (λ (x : Memory). unclocked_memory (moved_memory (again_at design listed m n) x)) (from.is any other)
+      ∙ ap (λ (x : Memory). unclocked_memory (renamed_memory (signals_by (again_at design listed m n)) x)) (from.is any other)
       ∙ ap (λ (x : Memory). unclocked_memory x) (sym (memory-moved (again_at design listed m n) leader.globals leader.clocks (get_or leader.piece.memories k any) (from.below any)))
 
   -- ---- with the share of the other unit

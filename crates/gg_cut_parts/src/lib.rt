@@ -6,11 +6,9 @@
 //! - `cut_part` makes the part of the hub, of a unit or of a listed memory that the plan asks for (`IsCutPart` in gg_cut_plan);
 //! - `moved_part` makes the part of a unit from that of the first unit of its host, with its own numbers and paths: so units of one
 //!   host run one program. By a law of gg_cut_split that is the part that the plan asks for: inside of both units registers and ports
-//!   follow the same Clock inputs (gg_cut_parts).
+//!   follow the same Clock inputs.
 //!
 //! The time that a part takes is that of gg_part, or linear in what is moved.
-//!
-//! The clocks of the machines of a cut.
 //!
 //! The hub and the listed memories have the clocks of the circuit, and a unit has its own Clock inputs. The crate promises:
 //!
@@ -19,13 +17,14 @@
 //! - [`Domains`] tells a machine's clocks, and which of the two its registers and ports follow;
 //! - `whole_clocking` tells the clocks that the registers and ports of any circuit follow, and `own_clocks` its clocks.
 //!
-//! `proofs/TimedLemmas` says that this is what `part_of` of gg_part asks for, and that units which share a host follow the same
+//! `proofs/DomainTimes` says that this is what `part_of` of gg_part asks for, and that units which share a host follow the same
 //! Clock inputs.
 //!
 //! `domains_of` takes time for the signals of the circuit times the depth of the instances, which is at most 32, and else for what
 //! the circuit has.
 #![tactic(auto)]
 
+mod domains;
 mod draft;
 mod lists;
 mod machine_draft;
@@ -34,17 +33,14 @@ mod moved_piece;
 mod parts;
 mod paths;
 mod places;
+mod tables;
+mod whole;
 
+pub use domains::{Domains, domains_of};
 pub use draft::Draft;
 pub use lists::{filled, numbers, picked, set_named};
 pub use machine_draft::MachineDraft;
 pub use moved::moved_part;
 pub use parts::cut_part;
 pub use paths::signal_name;
-
-mod domains;
-mod tables;
-mod whole;
-
-pub use domains::{Domains, domains_of};
 pub use whole::{own_clocks, whole_clocking};

@@ -5,10 +5,10 @@ ghost use Rattle.gg_flat.specs.declared.piece.Signal.{Signal};
 ghost use Rattle.gg_flat.specs.Circuit.{no_circuit};
 ghost use Rattle.gg_flat.specs.Line.{value_at};
 ghost use Rattle.gg_flat_tree.specs.Tree.{path_at};
-ghost use Rattle.gg_cut_reference.specs.Reference.{register_by, memory_by};
 ghost use Rattle.gg_cut_reference.specs.Made.{seen_signal, pipe_signal, pipe_register, pipe_signals, pipe_registers, reference_of};
 ghost use Rattle.gg_bits.specs.Lists.{by_number};
 ghost use Rattle.gg_cut_pipes.specs.Tables.{seen_in, kept_in, views_by};
+ghost use Rattle.gg_flat.specs.Renaming.{renamed_memory, renamed_register, signals_by};
 
 use crate::tables::Tables;
 use gg_bits::{AddError, Name};
@@ -222,7 +222,7 @@ fn add_registers(
     requires { length one.now.registers < 2 ^ 32 }
     ensures { OnOk result (piece.new ≡ record piece.old {
       registers = piece.old.registers
-          ++ by_number (λ r register. register_by (seen_in tables.now (value_at tables.now.holders r)) register) 0
+          ++ by_number (λ r register. renamed_register (signals_by (seen_in tables.now (value_at tables.now.holders r))) register) 0
           one.now.registers;
     }) }
 {
@@ -279,7 +279,7 @@ fn add_memories(
     requires { length one.now.memories < 2 ^ 32 }
     ensures { OnOk result (piece.new ≡ record piece.old {
       memories = piece.old.memories
-          ++ by_number (λ m memory. memory_by (seen_in tables.now (value_at tables.now.keepers m)) memory) 0
+          ++ by_number (λ m memory. renamed_memory (signals_by (seen_in tables.now (value_at tables.now.keepers m))) memory) 0
           one.now.memories;
     }) }
 {

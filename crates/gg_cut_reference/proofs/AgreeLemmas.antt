@@ -19,9 +19,9 @@ use Rattle.gg_flat_tree.specs.Tree.{path_at}
 use Rattle.gg_flat.proofs.ListLemmas.{map-same}
 use Rattle.gg_cut_split.proofs.ClosedLemmas.ListLemmas.{flattened-in, flat_map-is}
 use Rattle.gg_flat.specs.Line.{value_at}
-use Rattle.gg_flat.specs.Renaming.{signals_by}
+use Rattle.gg_flat.specs.Renaming.{signals_by, renamed_driver, renamed_memory, renamed_register}
 use Rattle.gg_flat.proofs.RenamedLaws as things
-use Rattle.gg_cut_reference.specs.Reference.{Views, register_by, memory_by, driver_by}
+use Rattle.gg_cut_reference.specs.Reference.{Views}
 use Rattle.gg_cut_reference.specs.Made.{seen_signal, pipe_signals, pipe_registers, reference_of}
 use Rattle.gg_bits.specs.Lists.{by_number}
 
@@ -40,10 +40,10 @@ filter-agree f g a (suc n) same = ap₂ (λ b l. cond b (a ∷ l) l) (same a (om
 -- ---- names that agree
 
 module _ (to other : ℕ → ℕ) where
-  register-agree : (register : Register) → ((t : ℕ) → RegisterNames register t → to t ≡ other t) → register_by to register ≡ register_by other register
+  register-agree : (register : Register) → ((t : ℕ) → RegisterNames register t → to t ≡ other t) → renamed_register (signals_by to) register ≡ renamed_register (signals_by other) register
   register-agree register same = things.register-agree (signals_by to) (signals_by other) register same refl
 
-  memory-agree : (memory : Memory) → ((t : ℕ) → Contains (flat_map (λ reader. reader_fields reader) memory.readers ++ flat_map (λ writer. writer_fields writer) memory.writers) t → to t ≡ other t) → memory_by to memory ≡ memory_by other memory
+  memory-agree : (memory : Memory) → ((t : ℕ) → Contains (flat_map (λ reader. reader_fields reader) memory.readers ++ flat_map (λ writer. writer_fields writer) memory.writers) t → to t ≡ other t) → renamed_memory (signals_by to) memory ≡ renamed_memory (signals_by other) memory
   memory-agree memory same =
       things.memory-agree (signals_by to) (signals_by other) memory
       (record {
@@ -74,7 +74,7 @@ module _ (to other : ℕ → ℕ) where
           Contains-append_right reads writes t
           (subst (λ (l : List ℕ). Contains l t) (sym (flat_map-is (λ (writer : Writer). writer_fields writer) memory.writers)) (flattened-in (λ (writer : Writer). writer_fields writer) memory.writers k d t lt (Contains-get_or (writer_fields (get_or memory.writers k d)) i 0 low)))
 
-  driver-agree : (driver : Driver) → ((t : ℕ) → NamesSignal driver t → to t ≡ other t) → driver_by to driver ≡ driver_by other driver
+  driver-agree : (driver : Driver) → ((t : ℕ) → NamesSignal driver t → to t ≡ other t) → renamed_driver (signals_by to) driver ≡ renamed_driver (signals_by other) driver
   driver-agree driver same = things.driver-agree (signals_by to) (signals_by other) driver same (λ r named. refl) (λ m named. refl)
 
 -- ---- the circuit
@@ -96,11 +96,11 @@ module _ (one : FlatCircuit) (mine views : Views) (pipes : List ℕ) (same : Are
       (driver-agree (mine.seen (mine.maker s)) (views.seen (views.maker s)) signal.driver (λ t named. same.maker s t lt
       (subst (λ driver. NamesSignal driver t) (sym (get_or-map (λ (x : Signal). x.driver) one.signals s d (Input 0) lt)) named)))
 
-  held-agree : (r : ℕ) (d : Register) → r < length one.registers → register_by (mine.seen (mine.holder r)) (get_or one.registers r d) ≡ register_by (views.seen (views.holder r)) (get_or one.registers r d)
+  held-agree : (r : ℕ) (d : Register) → r < length one.registers → renamed_register (signals_by (mine.seen (mine.holder r))) (get_or one.registers r d) ≡ renamed_register (signals_by (views.seen (views.holder r))) (get_or one.registers r d)
   held-agree r d lt =
       register-agree (mine.seen (mine.holder r)) (views.seen (views.holder r)) (get_or one.registers r d) (λ t named. same.holder r t (get_or one.registers r d) lt (slice_get-get_or one.registers r d lt) named)
 
-  kept-agree : (m : ℕ) (d : Memory) → m < length one.memories → memory_by (mine.seen (mine.keeper m)) (get_or one.memories m d) ≡ memory_by (views.seen (views.keeper m)) (get_or one.memories m d)
+  kept-agree : (m : ℕ) (d : Memory) → m < length one.memories → renamed_memory (signals_by (mine.seen (mine.keeper m))) (get_or one.memories m d) ≡ renamed_memory (signals_by (views.seen (views.keeper m))) (get_or one.memories m d)
   kept-agree m d lt =
       memory-agree (mine.seen (mine.keeper m)) (views.seen (views.keeper m)) (get_or one.memories m d) (λ t h. same.keeper m t lt
       (subst (λ (l : List ℕ). Contains l t)
@@ -111,12 +111,12 @@ module _ (one : FlatCircuit) (mine views : Views) (pipes : List ℕ) (same : Are
   pub reference-agree : reference_of one mine pipes ≡ reference_of one views pipes
   reference-agree =
       ap₂ (λ signals registers.
-      let all : FlatCircuit = record { paths = paths; signals = signals ++ pipe_signals one.signals (length one.registers) pipes; registers = registers ++ pipe_registers one.signals pipes; memories = by_number (λ m memory. memory_by (mine.seen (mine.keeper m)) memory) 0 one.memories; ins = one.ins; outs = map mine.kept one.outs; clocks = one.clocks } in all)
+      let all : FlatCircuit = record { paths = paths; signals = signals ++ pipe_signals one.signals (length one.registers) pipes; registers = registers ++ pipe_registers one.signals pipes; memories = by_number (λ m memory. renamed_memory (signals_by (mine.seen (mine.keeper m))) memory) 0 one.memories; ins = one.ins; outs = map mine.kept one.outs; clocks = one.clocks } in all)
       (first-agree (seen_signal mine) (seen_signal views) one.signals signal-agree)
-      (first-agree (λ r register. register_by (mine.seen (mine.holder r)) register) (λ r register. register_by (views.seen (views.holder r)) register) one.registers held-agree)
+      (first-agree (λ r register. renamed_register (signals_by (mine.seen (mine.holder r))) register) (λ r register. renamed_register (signals_by (views.seen (views.holder r))) register) one.registers held-agree)
       ∙ ap₂ (λ memories outs.
-      let all : FlatCircuit = record { paths = paths; signals = by_number (seen_signal views) 0 one.signals ++ pipe_signals one.signals (length one.registers) pipes; registers = by_number (λ r register. register_by (views.seen (views.holder r)) register) 0 one.registers ++ pipe_registers one.signals pipes; memories = memories; ins = one.ins; outs = outs; clocks = one.clocks } in all)
-      (first-agree (λ m memory. memory_by (mine.seen (mine.keeper m)) memory) (λ m memory. memory_by (views.seen (views.keeper m)) memory) one.memories kept-agree)
+      let all : FlatCircuit = record { paths = paths; signals = by_number (seen_signal views) 0 one.signals ++ pipe_signals one.signals (length one.registers) pipes; registers = by_number (λ r register. renamed_register (signals_by (views.seen (views.holder r))) register) 0 one.registers ++ pipe_registers one.signals pipes; memories = memories; ins = one.ins; outs = outs; clocks = one.clocks } in all)
+      (first-agree (λ m memory. renamed_memory (signals_by (mine.seen (mine.keeper m))) memory) (λ m memory. renamed_memory (signals_by (views.seen (views.keeper m))) memory) one.memories kept-agree)
       (map-same mine.kept views.kept one.outs same.kept)
     where
       paths : List (List ℕ)

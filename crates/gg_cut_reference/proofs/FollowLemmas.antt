@@ -23,7 +23,7 @@ use Rattle.gg_part.specs.declared.part.Part.{Part}
 use Rattle.gg_cut_plan.specs.Plan.{wire_at, channels_to, channels_from}
 use Rattle.gg_cut_plan.specs.Direct.{Hub, routes}
 use Rattle.gg_cut_routes.specs.Routes.{GivesInput}
-use Rattle.gg_cut_reference.specs.Reference.{IsReference, driver_by}
+use Rattle.gg_cut_reference.specs.Reference.{IsReference}
 use Rattle.gg_cut_reference.specs.Links.{pipes_of, seen_by, maker_of, views_of, taken_as, AreHolders}
 use Rattle.gg_cut_reference.specs.Made.{reference}
 use Rattle.gg_cut_plan.specs.Solves.{AreRows}
@@ -35,6 +35,7 @@ use Rattle.gg_cut_reference.proofs.SeenLemmas.{pipes-known}
 use Rattle.gg_cut_reference.proofs.LinkLemmas.{link-column}
 use Rattle.gg_cut_reference.proofs.PipeLemmas.{since-less}
 use Rattle.gg_cut_reference.proofs.MachineLemmas.{IsRoutedPart, machine-run, outs-columns}
+use Rattle.gg_flat.specs.Renaming.{renamed_driver, signals_by}
 
 -- the column of an in-signal, from the start on, is what it was given
 pub input-column : (circuit : FlatCircuit) (s p : ℕ) → p < length circuit.ins → s < length circuit.signals → driver_at circuit s ≡ Input p → (start : Start) (columns : List (List ℕ)) (end : ℕ) (rows : List (List ℕ)) → IsColumns circuit end columns → AreRows circuit start columns end rows → (t : ℕ) → start.cycle ≤ t → t < end
@@ -104,4 +105,4 @@ module _ (hub : Hub) (base : IsBase hub) (formed : IsWellFormed hub.circuit) (ho
       let at = formed.ins p lt in
       ap (λ s. value_at (column rows s) t) (source.all (wire_at (routes hub) c).given (Contains-map (λ d. (wire_at (routes hub) d).given) (channels_from (routes hub) m) c h))
       ∙ input-column (reference hub holder keeper) (value_at hub.circuit.ins p) p lt
-      (let low = at.0 in omega (arith, low, made.signals)) (made.drivers (value_at hub.circuit.ins p) at.0 ∙ ap (driver_by (seen_by hub (maker_of hub (value_at hub.circuit.ins p)))) at.1) start columns end rows given run t le below
+      (let low = at.0 in omega (arith, low, made.signals)) (made.drivers (value_at hub.circuit.ins p) at.0 ∙ ap (renamed_driver (signals_by (seen_by hub (maker_of hub (value_at hub.circuit.ins p))))) at.1) start columns end rows given run t le below

@@ -17,30 +17,30 @@ use Rattle.gg_flat.specs.Line.{value_at, shape_at, op_at, HasShape, HasType, IsS
 use Rattle.gg_flat.specs.Circuit.{FlatCircuit, signal_shapes, driver_at, readers_at, latency_at, reader_at}
 use Rattle.gg_flat.specs.WellFormed.{IsWellFormed, IsDataOf, MayDrive, IsReset, IsRegister, IsMemory, IsClock, IsClockedMemory, reader_driver}
 use Rattle.gg_flat.proofs.ListLemmas.{some-item}
-use Rattle.gg_flat.specs.Renaming.{signals_by}
+use Rattle.gg_flat.specs.Renaming.{signals_by, renamed_driver, renamed_line, renamed_memory, renamed_reader, renamed_register, renamed_writer}
 use Rattle.gg_flat.proofs.RenamedLineLaws.{source-there}
 use Rattle.gg_flat.proofs.RenamedLaws.{register-there, memory-there, reader_driver-renamed}
-use Rattle.gg_cut_reference.specs.Reference.{Views, IsReference, IsSeen, IsPiped, IsPipeRegister, line_by, register_by, reader_by, writer_by, memory_by, driver_by}
+use Rattle.gg_cut_reference.specs.Reference.{Views, IsReference, IsSeen, IsPiped, IsPipeRegister}
 
 -- ---- the same under the numbers that a machine sees
 
 module _ (one all : FlatCircuit) (to : ℕ → ℕ) (types : (s : ℕ) (sh : Shape) → HasType (signal_shapes one) s sh → HasType (signal_shapes all) (to s) sh) where
-  source-is : (sink : Shape) (line : List Node) → IsSource (HasType (signal_shapes one)) sink line → IsSource (HasType (signal_shapes all)) sink (line_by to line)
+  source-is : (sink : Shape) (line : List Node) → IsSource (HasType (signal_shapes one)) sink line → IsSource (HasType (signal_shapes all)) sink (renamed_line to line)
   source-is sink line is = source-there to (HasType (signal_shapes one)) (HasType (signal_shapes all)) sink line (λ s named. types s) is
 
-  pub register-is : (register : Register) → IsRegister (HasType (signal_shapes one)) register → IsRegister (HasType (signal_shapes all)) (register_by to register)
+  pub register-is : (register : Register) → IsRegister (HasType (signal_shapes one)) register → IsRegister (HasType (signal_shapes all)) (renamed_register (signals_by to) register)
   register-is register is = register-there (signals_by to) (HasType (signal_shapes one)) (HasType (signal_shapes all)) register (λ s named. types s) is
 
-  pub memory-is : (memory : Memory) → IsMemory (HasType (signal_shapes one)) memory → IsMemory (HasType (signal_shapes all)) (memory_by to memory)
+  pub memory-is : (memory : Memory) → IsMemory (HasType (signal_shapes one)) memory → IsMemory (HasType (signal_shapes all)) (renamed_memory (signals_by to) memory)
   memory-is memory is =
       memory-there (signals_by to) (HasType (signal_shapes one)) (HasType (signal_shapes all)) memory
       (record { readers = λ k d lt. (types _, types _, types _); writers = λ k d lt. (types _, types _, types _, types _) }) is
 
-memory-clocked : (count : ℕ) (to : ℕ → ℕ) (memory : Memory) → IsClockedMemory count memory → IsClockedMemory count (memory_by to memory)
+memory-clocked : (count : ℕ) (to : ℕ → ℕ) (memory : Memory) → IsClockedMemory count memory → IsClockedMemory count (renamed_memory (signals_by to) memory)
 memory-clocked count to memory is =
     record {
-      readers = All-map (λ (reader : Reader). IsClock count reader.clock) (λ reader. reader_by to reader) memory.readers is.readers;
-      writers = All-map (λ (writer : Writer). IsClock count writer.clock) (λ writer. writer_by to writer) memory.writers is.writers;
+      readers = All-map (λ (reader : Reader). IsClock count reader.clock) (λ reader. renamed_reader (signals_by to) reader) memory.readers is.readers;
+      writers = All-map (λ (writer : Writer). IsClock count writer.clock) (λ writer. renamed_writer (signals_by to) writer) memory.writers is.writers;
     }
 
 -- ---- the circuit
@@ -71,12 +71,12 @@ module _ (one all : FlatCircuit) (views : Views) (pipes : List ℕ) (reference :
 
   -- ---- memories
 
-  readers-all : (m : ℕ) → m < length one.memories → readers_at all m ≡ map (λ reader. reader_by (views.seen (views.keeper m)) reader) (readers_at one m)
+  readers-all : (m : ℕ) → m < length one.memories → readers_at all m ≡ map (λ reader. renamed_reader (signals_by (views.seen (views.keeper m))) reader) (readers_at one m)
   readers-all m lt =
       let any = some-item one.memories m lt in
       get_or-map (λ (memory : Memory). memory.readers) all.memories m any [] (omega (arith, lt, reference.memories))
       ∙ ap (λ (memory : Memory). memory.readers) (reference.memory m any any lt)
-      ∙ ap (map (λ reader. reader_by (views.seen (views.keeper m)) reader)) (sym (get_or-map (λ (memory : Memory). memory.readers) one.memories m any [] lt))
+      ∙ ap (map (λ reader. renamed_reader (signals_by (views.seen (views.keeper m))) reader)) (sym (get_or-map (λ (memory : Memory). memory.readers) one.memories m any [] lt))
 
   latency-all : (m : ℕ) → m < length one.memories → latency_at all m ≡ latency_at one m
   latency-all m lt =
@@ -85,13 +85,13 @@ module _ (one all : FlatCircuit) (views : Views) (pipes : List ℕ) (reference :
       ∙ ap (λ (memory : Memory). memory.latency) (reference.memory m any any lt)
       ∙ sym (get_or-map (λ (memory : Memory). memory.latency) one.memories m any Zero lt)
 
-  reader-all : (m r : ℕ) → m < length one.memories → r < length (readers_at one m) → reader_at (readers_at all m) r ≡ reader_by (views.seen (views.keeper m)) (reader_at (readers_at one m) r)
+  reader-all : (m r : ℕ) → m < length one.memories → r < length (readers_at one m) → reader_at (readers_at all m) r ≡ renamed_reader (signals_by (views.seen (views.keeper m))) (reader_at (readers_at one m) r)
   reader-all m r lt inside =
       let none : Reader = record { addr = 0; en = 0; word = 0; clock = None } in
-      ap (λ readers. reader_at readers r) (readers-all m lt) ∙ get_or-map (λ reader. reader_by (views.seen (views.keeper m)) reader) (readers_at one m) r none none inside
+      ap (λ readers. reader_at readers r) (readers-all m lt) ∙ get_or-map (λ reader. renamed_reader (signals_by (views.seen (views.keeper m))) reader) (readers_at one m) r none none inside
 
   count-all : (m : ℕ) → m < length one.memories → length (readers_at all m) ≡ length (readers_at one m)
-  count-all m lt = ap length (readers-all m lt) ∙ length-map (readers_at one m) (λ reader. reader_by (views.seen (views.keeper m)) reader)
+  count-all m lt = ap length (readers-all m lt) ∙ length-map (readers_at one m) (λ reader. renamed_reader (signals_by (views.seen (views.keeper m))) reader)
 
   memory-of : (m r s : ℕ) → IsDataOf one m r s → m < length one.memories
   memory-of m r s data-of = by (cases_lt m (length one.memories))
@@ -112,7 +112,7 @@ module _ (one all : FlatCircuit) (views : Views) (pipes : List ℕ) (reference :
         let low = is.0 in
         (omega (arith, low, count-all m lt), ap (λ (reader : Reader). reader.word) (reader-all m r lt is.0) ∙ are.plain m r is.0 ∙ is.1)
 
-    drives : (s : ℕ) (driver : Driver) → s < length one.signals → MayDrive one s driver → MayDrive all s (driver_by (views.seen (views.maker s)) driver)
+    drives : (s : ℕ) (driver : Driver) → s < length one.signals → MayDrive one s driver → MayDrive all s (renamed_driver (signals_by (views.seen (views.maker s))) driver)
     drives s (Input place) lt is = (subst (λ ins. place < length ins) (sym reference.ins) is.0, ap (λ ins. value_at ins place) reference.ins ∙ is.1)
     drives s (Held register) lt is =
         let any = some-item one.registers register is.0 in
@@ -126,7 +126,7 @@ module _ (one all : FlatCircuit) (views : Views) (pipes : List ℕ) (reference :
     drives s (MemoryWord memory reader addr en) lt is = data-all memory reader s is
     drives s (ReadRegister memory reader) lt is = data-all memory reader s is
     drives s (Computed line) lt is =
-        subst (λ sink. IsSource (HasType (signal_shapes all)) sink (line_by (views.seen (views.maker s)) line)) (sym (reference.shapes s lt))
+        subst (λ sink. IsSource (HasType (signal_shapes all)) sink (renamed_line (views.seen (views.maker s)) line)) (sym (reference.shapes s lt))
         (source-is one all (views.seen (views.maker s)) (types (views.maker s)) (shape_at (signal_shapes one) s) line is)
 
     -- the paths, the out-signals and the pipes' channels are as they must be
@@ -208,7 +208,7 @@ module _ (one all : FlatCircuit) (views : Views) (pipes : List ℕ) (reference :
               let at = formed.ins place lt in
               let low = at.0 in
               let same : value_at all.ins place ≡ value_at one.ins place = ap (λ l. value_at l place) reference.ins in
-              (omega (arith, low, same, reference.signals), ap (driver_at all) same ∙ reference.drivers (value_at one.ins place) low ∙ ap (driver_by (views.seen (views.maker (value_at one.ins place)))) at.1)
+              (omega (arith, low, same, reference.signals), ap (driver_at all) same ∙ reference.drivers (value_at one.ins place) low ∙ ap (renamed_driver (signals_by (views.seen (views.maker (value_at one.ins place))))) at.1)
 
           register : (r : ℕ) (d : Register) → r < length all.registers → (r < length one.registers) ⊎ (length one.registers ≤ r) → IsRegister (HasType (signal_shapes all)) (get_or all.registers r d)
           register r d lt (inl low) =
@@ -238,7 +238,7 @@ module _ (one all : FlatCircuit) (views : Views) (pipes : List ℕ) (reference :
               let known = word-known m r lt low in
               ap (driver_at all) (ap (λ (q : Reader). q.word) (reader-all m r lt low) ∙ are.plain m r low)
               ∙ reference.drivers reader.word known
-              ∙ ap₂ (λ j d. driver_by (views.seen j) d) (are.maker m r low) (formed.reads m lt r low)
+              ∙ ap₂ (λ j d. renamed_driver (signals_by (views.seen j)) d) (are.maker m r low) (formed.reads m lt r low)
               ∙ reader_driver-renamed (signals_by (views.seen (views.keeper m))) (latency_at one m) m r reader
               ∙ ap₂ (λ latency q. reader_driver latency m r q) (sym (latency-all m lt)) (sym (reader-all m r lt low))
             where

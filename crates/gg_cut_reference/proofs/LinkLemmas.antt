@@ -20,7 +20,7 @@ use Rattle.gg_cut_plan.specs.Listed.{first_place}
 use Rattle.gg_cut_plan.proofs.PathLemmas.{IsPlace, place-tells}
 use Rattle.gg_cut_plan.specs.Direct.{Hub, is_own, routes, origin_within}
 use Rattle.gg_cut_plan.specs.Direct.{IsSame}
-use Rattle.gg_cut_reference.specs.Reference.{IsReference, driver_by, op_by}
+use Rattle.gg_cut_reference.specs.Reference.{IsReference}
 use Rattle.gg_cut_plan.specs.Solves.{AreRows, stream}
 use Rattle.gg_cut_reference.specs.Follows.{token_of, token_or}
 use Rattle.gg_cut_reference.specs.Links.{pipes_of, taken_as, seen_by, maker_of, views_of}
@@ -30,6 +30,7 @@ use Rattle.gg_cut_plan.proofs.DirectLemmas.{IsFromBase}
 use Rattle.gg_cut_plan.proofs.SameLemmas.{copy-wide, IsKeptIn, AreKeptIn, routes-same}
 use Rattle.gg_cut_reference.proofs.PipeLemmas.{IsPipe, pipe-column, since-less}
 use Rattle.gg_cut_reference.proofs.SeenLemmas.{maker-inner, maker-wire, pipe-in, place-of, unpiped, takes-seen, seen-origin, pipes-known}
+use Rattle.gg_flat.specs.Renaming.{renamed_driver, renamed_op, signals_by}
 
 module _ (hub : Hub) (base : IsBase hub) (all : FlatCircuit) (holder keeper : ℕ → ℕ) (reference : IsReference hub.circuit all (views_of hub holder keeper) (pipes_of hub)) (formed : IsWellFormed hub.circuit) where
   -- a copy of the hub that has an origin is a copy in the reference circuit
@@ -47,7 +48,7 @@ module _ (hub : Hub) (base : IsBase hub) (all : FlatCircuit) (holder keeper : �
       each : (n s t x : ℕ) → s < length hub.circuit.signals → maker_of hub s ≡ 0 → IsCopied hub.circuit s t → origin_within hub n t ≡ Some x → IsKeptIn hub all s t
       each n s t x lt hub-made is from =
           let wide = copy-wide hub.circuit formed s t lt is in
-          let node : Node = record { ty = is.bare.node.ty; op = op_by (seen_by hub 0) is.bare.node.op } in
+          let node : Node = record { ty = is.bare.node.ty; op = renamed_op (seen_by hub 0) is.bare.node.op } in
           let low = wide.known in
           let shape-s = reference.shapes s lt in
           let shape-t = reference.shapes t low in
@@ -56,8 +57,8 @@ module _ (hub : Hub) (base : IsBase hub) (all : FlatCircuit) (holder keeper : �
             is = record {
               bare = record {
                 node = node;
-                is = reference.drivers s lt ∙ ap₂ (λ m d. driver_by (seen_by hub m) d) hub-made is.bare.is;
-                op = ap (op_by (seen_by hub 0)) is.bare.op ∙ ap Ref (seen-origin hub base n t x from);
+                is = reference.drivers s lt ∙ ap₂ (λ m d. renamed_driver (signals_by (seen_by hub m)) d) hub-made is.bare.is;
+                op = ap (renamed_op (seen_by hub 0)) is.bare.op ∙ ap Ref (seen-origin hub base n t x from);
               };
               wide = ap₂ (λ (a b : Shape). a.width == b.width) shape-t shape-s ∙ is.wide;
             };

@@ -12,8 +12,9 @@ use Rattle.gg_flat.specs.declared.line.Op.TheVariants.{Ref}
 use Rattle.gg_flat.specs.Line.{value_at, shape_at}
 use Rattle.gg_flat.specs.Circuit.{FlatCircuit, signal_shapes}
 use Rattle.gg_flat.proofs.ListLemmas.{some-item}
-use Rattle.gg_cut_reference.specs.Reference.{Views, IsReference, IsPipeRegister, driver_by, register_by, memory_by}
+use Rattle.gg_cut_reference.specs.Reference.{Views, IsReference, IsPipeRegister}
 use Rattle.gg_cut_reference.specs.Made.{seen_signal, pipe_signal, pipe_register, pipe_signals, pipe_registers, reference_of}
+use Rattle.gg_flat.specs.Renaming.{renamed_driver, renamed_memory, renamed_register, signals_by}
 use Rattle.gg_bits.specs.Lists.{by_number}
 
 -- ---- items by number
@@ -90,8 +91,8 @@ module _ (one : FlatCircuit) (views : Views) (pipes : List ℕ) (known : Known o
 
   many : length (reference_of one views pipes).registers ≡ length one.registers + length pipes
   many =
-      length-append (by_number (λ r register. register_by (views.seen (views.holder r)) register) 0 one.registers) (pipe_registers one.signals pipes)
-      ∙ ap₂ (λ a b. a + b) (length-by (λ r register. register_by (views.seen (views.holder r)) register) 0 one.registers) (length-registers one.signals pipes known)
+      length-append (by_number (λ r register. renamed_register (signals_by (views.seen (views.holder r))) register) 0 one.registers) (pipe_registers one.signals pipes)
+      ∙ ap₂ (λ a b. a + b) (length-by (λ r register. renamed_register (signals_by (views.seen (views.holder r))) register) 0 one.registers) (length-registers one.signals pipes known)
 
   signal-is : (s : ℕ) (any other : Signal) → s < length one.signals → get_or (reference_of one views pipes).signals s other ≡ seen_signal views s (get_or one.signals s any)
   signal-is s any other lt =
@@ -106,8 +107,8 @@ module _ (one : FlatCircuit) (views : Views) (pipes : List ℕ) (known : Known o
 
   register-is : (k : ℕ) (any : Signal) (other : Register) → k < length pipes → get_or (reference_of one views pipes).registers (length one.registers + k) other ≡ pipe_register (value_at pipes k) (get_or one.signals (value_at pipes k) any)
   register-is k any other lt =
-      ap (λ n. get_or (reference_of one views pipes).registers (n + k) other) (sym (length-by (λ r register. register_by (views.seen (views.holder r)) register) 0 one.registers))
-      ∙ get_or-append-add (by_number (λ r register. register_by (views.seen (views.holder r)) register) 0 one.registers) (pipe_registers one.signals pipes) k other
+      ap (λ n. get_or (reference_of one views pipes).registers (n + k) other) (sym (length-by (λ r register. renamed_register (signals_by (views.seen (views.holder r))) register) 0 one.registers))
+      ∙ get_or-append-add (by_number (λ r register. renamed_register (signals_by (views.seen (views.holder r))) register) 0 one.registers) (pipe_registers one.signals pipes) k other
       ∙ registers-at one.signals pipes k any other known lt
 
   abbrev type_of : Signal → Shape
@@ -126,14 +127,14 @@ module _ (one : FlatCircuit) (views : Views) (pipes : List ℕ) (known : Known o
         drivers = λ s lt.
             let any = some-item one.signals s lt in
             get_or-map driver_of (reference_of one views pipes).signals s any (Input 0) (omega (arith, lt, long)) ∙ ap driver_of (signal-is s any any lt)
-            ∙ ap (driver_by (views.seen (views.maker s))) (sym (get_or-map driver_of one.signals s any (Input 0) lt));
+            ∙ ap (renamed_driver (signals_by (views.seen (views.maker s)))) (sym (get_or-map driver_of one.signals s any (Input 0) lt));
         registers = many;
         register = λ r any other lt.
-            get_or_append_left (by_number (λ r register. register_by (views.seen (views.holder r)) register) 0 one.registers) (pipe_registers one.signals pipes) other r
-            (omega (arith, lt, length-by (λ r register. register_by (views.seen (views.holder r)) register) 0 one.registers))
-            ∙ at-first (λ r register. register_by (views.seen (views.holder r)) register) one.registers r any other lt;
-        memories = length-by (λ m memory. memory_by (views.seen (views.keeper m)) memory) 0 one.memories;
-        memory = λ m any other lt. at-first (λ m memory. memory_by (views.seen (views.keeper m)) memory) one.memories m any other lt;
+            get_or_append_left (by_number (λ r register. renamed_register (signals_by (views.seen (views.holder r))) register) 0 one.registers) (pipe_registers one.signals pipes) other r
+            (omega (arith, lt, length-by (λ r register. renamed_register (signals_by (views.seen (views.holder r))) register) 0 one.registers))
+            ∙ at-first (λ r register. renamed_register (signals_by (views.seen (views.holder r))) register) one.registers r any other lt;
+        memories = length-by (λ m memory. renamed_memory (signals_by (views.seen (views.keeper m))) memory) 0 one.memories;
+        memory = λ m any other lt. at-first (λ m memory. renamed_memory (signals_by (views.seen (views.keeper m))) memory) one.memories m any other lt;
         paths = refl;
         ins = refl;
         outs = refl;

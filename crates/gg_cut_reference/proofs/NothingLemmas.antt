@@ -15,12 +15,12 @@ use Rattle.gg_partfile.specs.declared.request.Request.{Request}
 use Rattle.gg_cut_plan.specs.Listed.{first_place, is_among, listed_of}
 use Rattle.gg_cut_plan.specs.declared.wires.Wire.{Wire}
 use Rattle.gg_cut_plan.specs.Direct.{Hub, routes, plan_hub}
-use Rattle.gg_flat.specs.Renaming.{signals_by, same_numbers}
+use Rattle.gg_flat.specs.Renaming.{signals_by, same_numbers, renamed_driver, renamed_memory, renamed_register}
 use Rattle.gg_flat.proofs.RenamedLaws as things
-use Rattle.gg_cut_reference.specs.Reference.{Views, register_by, memory_by, driver_by}
+use Rattle.gg_cut_reference.specs.Reference.{Views}
 use Rattle.gg_cut_reference.specs.Links.{is_carried, pipes_of, taken_as, seen_by, views_of}
-use Rattle.gg_bits.specs.Lists.{number_or, by_number}
 use Rattle.gg_cut_reference.specs.Made.{seen_signal, reference_of, reference, holder_of, keeper_of, plan_reference}
+use Rattle.gg_bits.specs.Lists.{number_or, by_number}
 
 -- a function that changes nothing leaves a list as it is
 all-same : {A : Type 0} (f : A → A) → ((x : A) → f x ≡ x) → (xs : List A) → map f xs ≡ xs
@@ -33,28 +33,28 @@ numbers-same f same n (x ∷ xs) = ap₂ (λ y ys. y ∷ ys) (same n x) (numbers
 -- ---- names that are the same
 
 module _ (to : ℕ → ℕ) (same : (s : ℕ) → to s ≡ s) where
-  register-same : (register : Register) → register_by to register ≡ register
+  register-same : (register : Register) → renamed_register (signals_by to) register ≡ register
   register-same register = things.register-agree (signals_by to) same_numbers register (λ s named. same s) refl ∙ things.register-same register
 
-  memory-same : (memory : Memory) → memory_by to memory ≡ memory
+  memory-same : (memory : Memory) → renamed_memory (signals_by to) memory ≡ memory
   memory-same memory =
       things.memory-agree (signals_by to) same_numbers memory
       (things.memory-each (things.AgreeAt (signals_by to) same_numbers) memory same) (things.follows-each (things.AgreeOn (signals_by to) same_numbers) memory (λ clock. refl))
       ∙ things.memory-same memory
 
-  driver-same : (driver : Driver) → driver_by to driver ≡ driver
+  driver-same : (driver : Driver) → renamed_driver (signals_by to) driver ≡ driver
   driver-same driver = things.driver-agree (signals_by to) same_numbers driver (λ s named. same s) (λ r named. refl) (λ m named. refl) ∙ things.driver-same driver
 
 -- ---- the circuit
 
 same-circuit : (circuit : FlatCircuit) (views : Views) → ((m s : ℕ) → views.seen m s ≡ s) → ((s : ℕ) → views.kept s ≡ s) → reference_of circuit views [] ≡ circuit
 same-circuit circuit views seen kept =
-    ap₂ (λ signals registers. let all : FlatCircuit = record { paths = circuit.paths ++ []; signals = signals; registers = registers; memories = by_number (λ m memory. memory_by (views.seen (views.keeper m)) memory) 0 circuit.memories; ins = circuit.ins; outs = map views.kept circuit.outs; clocks = circuit.clocks } in all)
+    ap₂ (λ signals registers. let all : FlatCircuit = record { paths = circuit.paths ++ []; signals = signals; registers = registers; memories = by_number (λ m memory. renamed_memory (signals_by (views.seen (views.keeper m))) memory) 0 circuit.memories; ins = circuit.ins; outs = map views.kept circuit.outs; clocks = circuit.clocks } in all)
     (append-nil (by_number (seen_signal views) 0 circuit.signals) ∙ numbers-same (seen_signal views) signal-same 0 circuit.signals)
-    (append-nil (by_number (λ r register. register_by (views.seen (views.holder r)) register) 0 circuit.registers) ∙ numbers-same (λ r register. register_by (views.seen (views.holder r)) register) (λ r register. register-same (views.seen (views.holder r)) (seen (views.holder r)) register) 0 circuit.registers)
+    (append-nil (by_number (λ r register. renamed_register (signals_by (views.seen (views.holder r))) register) 0 circuit.registers) ∙ numbers-same (λ r register. renamed_register (signals_by (views.seen (views.holder r))) register) (λ r register. register-same (views.seen (views.holder r)) (seen (views.holder r)) register) 0 circuit.registers)
     ∙ ap₂ (λ paths memories. let all : FlatCircuit = record { paths = paths; signals = circuit.signals; registers = circuit.registers; memories = memories; ins = circuit.ins; outs = map views.kept circuit.outs; clocks = circuit.clocks } in all)
     (append-nil circuit.paths)
-    (numbers-same (λ m memory. memory_by (views.seen (views.keeper m)) memory) (λ m memory. memory-same (views.seen (views.keeper m)) (seen (views.keeper m)) memory) 0 circuit.memories)
+    (numbers-same (λ m memory. renamed_memory (signals_by (views.seen (views.keeper m))) memory) (λ m memory. memory-same (views.seen (views.keeper m)) (seen (views.keeper m)) memory) 0 circuit.memories)
     ∙ ap (λ outs. let all : FlatCircuit = record circuit { outs = outs } in all) (all-same views.kept kept circuit.outs)
   where
     signal-same : (s : ℕ) (own : Signal) → seen_signal views s own ≡ own

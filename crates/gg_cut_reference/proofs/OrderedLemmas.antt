@@ -15,7 +15,8 @@ use Rattle.gg_flat.specs.Order.{IsOrder}
 use Rattle.gg_flat.proofs.OrderLemmas.{stands-before}
 use Rattle.gg_cut_split.proofs.ClosedLemmas.ListLemmas.{AllPairs-append}
 use Rattle.gg_flat.proofs.RenamedLineLaws.{named-back}
-use Rattle.gg_cut_reference.specs.Reference.{Views, IsReference, IsSeen, IsPiped, driver_by}
+use Rattle.gg_cut_reference.specs.Reference.{Views, IsReference, IsSeen, IsPiped}
+use Rattle.gg_flat.specs.Renaming.{renamed_driver, signals_by}
 
 -- what a renamed driver names, by its name before
 pub record IsNameOf (to : ℕ → ℕ) (Named : ℕ → Type 0) (u : ℕ) : Type 0 where
@@ -23,7 +24,7 @@ pub record IsNameOf (to : ℕ → ℕ) (Named : ℕ → Type 0) (u : ℕ) : Type
   pub named : Named before
   pub is : to before ≡ u
 
-driver-name : (to : ℕ → ℕ) (driver : Driver) (u : ℕ) → NamesSignal (driver_by to driver) u → IsNameOf to (NamesSignal driver) u
+driver-name : (to : ℕ → ℕ) (driver : Driver) (u : ℕ) → NamesSignal (renamed_driver (signals_by to) driver) u → IsNameOf to (NamesSignal driver) u
 driver-name to (Input place) u named = absurd named
 driver-name to (Held register) u named = absurd named
 driver-name to (MemoryWord memory reader addr en) u (inl e) = record { before = addr; named = inl refl; is = e }

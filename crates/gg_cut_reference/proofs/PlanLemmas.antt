@@ -27,7 +27,7 @@ use Rattle.gg_cut_split.proofs.ClosedLemmas.FaultlessLemmas.{faultless-apart}
 use Rattle.gg_cut_routes.proofs.ChoiceLemmas.{any-wire}
 use Rattle.gg_cut_routes.proofs.RouteLemmas.{IsBase}
 use Rattle.gg_cut_routes.proofs.RoutedLemmas.{routed-base}
-use Rattle.gg_cut_reference.specs.Reference.{IsReference, IsSeen, with_paths, driver_by}
+use Rattle.gg_cut_reference.specs.Reference.{IsReference, IsSeen, with_paths}
 use Rattle.gg_cut_reference.specs.Links.{pipes_of, taken_as, maker_of, AreHolders}
 use Rattle.gg_cut_reference.specs.Made.{holder_of, keeper_of, plan_reference, plan_seen, views_in, IsFresh}
 use Rattle.gg_cut_plan.specs.Held.{AreHeldOnce}
@@ -38,6 +38,7 @@ use Rattle.gg_cut_reference.proofs.MachineLemmas.{map-agree, IsRoutedPart, cut-p
 use Rattle.gg_cut_reference.proofs.FollowLemmas.{input-column, follows}
 use Rattle.gg_cut_reference.proofs.SeenLemmas.{all-seen, seen-own, takes-seen, gives-seen}
 use Rattle.gg_cut_reference.proofs.WholeReference.{made, ordered, whole-formed}
+use Rattle.gg_flat.specs.Renaming.{renamed_driver, signals_by}
 
 -- lists of in-signals that have the same shapes take the same columns
 columns-by : (one all : FlatCircuit) → all.ins ≡ one.ins → ((i : ℕ) → i < length one.ins → shape_at (signal_shapes one) (value_at one.ins i) ≡ shape_at (signal_shapes all) (value_at one.ins i)) → (n : ℕ) (columns : List (List ℕ)) → IsColumns one n columns → IsColumns all n columns
@@ -134,4 +135,4 @@ module _ (design : Ordered) (request : Request) (is : IsDesign design) (keeps : 
         let at = is.formed.ins p lt in
         let low = at.0 in
         let s = value_at design.circuit.ins p in
-        input-column (plan_reference design request) s p lt (omega (arith, low, plan-made.signals)) (plan-made.drivers s low ∙ ap (driver_by (plan_seen design request (maker_of hub s))) at.1) start columns end rows (plan-columns end columns given) run t le below
+        input-column (plan_reference design request) s p lt (omega (arith, low, plan-made.signals)) (plan-made.drivers s low ∙ ap (renamed_driver (signals_by (plan_seen design request (maker_of hub s)))) at.1) start columns end rows (plan-columns end columns given) run t le below

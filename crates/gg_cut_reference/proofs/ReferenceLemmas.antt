@@ -19,8 +19,9 @@ use Rattle.gg_part.specs.PartRun.{part_row, part_rows, part_columns, part_start}
 use Rattle.gg_part.proofs.RunLemmas.{column-at, IsRunFrom-part}
 use Rattle.gg_part.specs.Part.{IsPart, IsFrom, IsRegisterFrom, IsMemoryFrom, MemoryBelow}
 use Rattle.gg_cut_plan.specs.Solves.{AreRows}
-use Rattle.gg_cut_reference.specs.Reference.{Views, IsReference, IsSeen, IsPiped, with_paths, driver_by, register_by, memory_by}
+use Rattle.gg_cut_reference.specs.Reference.{Views, IsReference, IsSeen, IsPiped, with_paths}
 use Rattle.gg_cut_reference.proofs.RenameLemmas.{value-by, line-by, register-by, memory-by}
+use Rattle.gg_flat.specs.Renaming.{renamed_driver, renamed_memory, renamed_register, signals_by}
 
 -- A driver of a part that isn't an input's.
 pub data Own (part : FlatCircuit) (s : ℕ) : Type 0 where
@@ -77,27 +78,27 @@ module _ (one all : FlatCircuit) (views : Views) (pipes : List ℕ) (reference :
   read s lt = get_or-map (views.seen m) globals s 0 0 lt
 
   -- a driver of the part stands for the reference's as it stands for the design's
-  from-by : (s : ℕ) (outer own : Driver) → s < length globals → IsFrom part.ins globals held memories s outer own → IsFrom part.ins (map (views.seen m) globals) held memories s (driver_by (views.seen m) outer) own
+  from-by : (s : ℕ) (outer own : Driver) → s < length globals → IsFrom part.ins globals held memories s outer own → IsFrom part.ins (map (views.seen m) globals) held memories s (renamed_driver (signals_by (views.seen m)) outer) own
   from-by s outer (Input place) lt from = from
-  from-by s outer (Held register) lt from = (from.0, ap (driver_by (views.seen m)) from.1)
+  from-by s outer (Held register) lt from = (from.0, ap (renamed_driver (signals_by (views.seen m))) from.1)
   from-by s outer (MemoryWord k r addr en) lt from =
       let low = from.1 in
       let high = from.2 in (
         from.0,
         omega (arith, low, long),
         omega (arith, high, long),
-        ap (driver_by (views.seen m)) from.3 ∙ ap₂ (λ a e. MemoryWord (value_at memories k) r a e) (value-by globals (views.seen m) addr from.1) (value-by globals (views.seen m) en from.2),
+        ap (renamed_driver (signals_by (views.seen m))) from.3 ∙ ap₂ (λ a e. MemoryWord (value_at memories k) r a e) (value-by globals (views.seen m) addr from.1) (value-by globals (views.seen m) en from.2),
       )
-  from-by s outer (ReadRegister k r) lt from = (from.0, ap (driver_by (views.seen m)) from.1)
+  from-by s outer (ReadRegister k r) lt from = (from.0, ap (renamed_driver (signals_by (views.seen m))) from.1)
   from-by s outer (Computed line) lt from =
-      ((λ t named. let low = from.0 t named in omega (arith, low, long)), ap (driver_by (views.seen m)) from.1 ∙ ap Computed (line-by globals (views.seen m) line from.0))
+      ((λ t named. let low = from.0 t named in omega (arith, low, long)), ap (renamed_driver (signals_by (views.seen m))) from.1 ∙ ap Computed (line-by globals (views.seen m) line from.0))
 
   module _ (own : IsOwn) where
     driver-from : (s : ℕ) → s < length globals → Own part s → IsFrom part.ins (map (views.seen m) globals) held memories s (driver_at all (value_at (map (views.seen m) globals) s)) (driver_at part s)
     driver-from s lt (Outer place e) = subst (λ d. IsFrom part.ins (map (views.seen m) globals) held memories s (driver_at all (value_at (map (views.seen m) globals) s)) d) (sym e) (subst (λ d. IsFrom part.ins globals held memories s (driver_at one (value_at globals s)) d) e (is.drivers s lt))
     driver-from s lt (Inner none) =
         subst (λ d. IsFrom part.ins (map (views.seen m) globals) held memories s d (driver_at part s))
-        (sym (ap (driver_at all) (read s lt ∙ own.plain s lt none) ∙ reference.drivers (value_at globals s) (is.within s lt) ∙ ap (λ j. driver_by (views.seen j) (driver_at one (value_at globals s))) (own.made s lt none)))
+        (sym (ap (driver_at all) (read s lt ∙ own.plain s lt none) ∙ reference.drivers (value_at globals s) (is.within s lt) ∙ ap (λ j. renamed_driver (signals_by (views.seen j)) (driver_at one (value_at globals s))) (own.made s lt none)))
         (from-by s (driver_at one (value_at globals s)) (driver_at part s) lt (is.drivers s lt))
 
     register-from : (r : ℕ) → r < length held → IsRegisterFrom all (with_paths all part (map (views.seen m) globals)) (map (views.seen m) globals) held clocks r
@@ -109,7 +110,7 @@ module _ (one all : FlatCircuit) (views : Views) (pipes : List ℕ) (reference :
           is = λ any other.
               let some = some-item one.registers (value_at held r) low in
               reference.register (value_at held r) some other low
-              ∙ ap₂ (λ j (register : Register). register_by (views.seen j) register) (own.held_by r lt) (at.is any some)
+              ∙ ap₂ (λ j (register : Register). renamed_register (signals_by (views.seen j)) register) (own.held_by r lt) (at.is any some)
               ∙ register-by globals (views.seen m) clocks (get_or part.registers r any) (at.below any);
           below = λ any s named. let b = at.below any s named in omega (arith, b, long);
           clocked = at.clocked;
@@ -124,7 +125,7 @@ module _ (one all : FlatCircuit) (views : Views) (pipes : List ℕ) (reference :
           is = λ any other.
               let some = some-item one.memories (value_at memories k) low in
               reference.memory (value_at memories k) some other low
-              ∙ ap₂ (λ j (memory : Memory). memory_by (views.seen j) memory) (own.kept_by k lt) (at.is any some)
+              ∙ ap₂ (λ j (memory : Memory). renamed_memory (signals_by (views.seen j)) memory) (own.kept_by k lt) (at.is any some)
               ∙ memory-by globals (views.seen m) clocks (get_or part.memories k any) (at.below any);
           below = λ any. subst (λ n. MemoryBelow n (get_or part.memories k any)) (sym long) (at.below any);
           clocked = at.clocked;

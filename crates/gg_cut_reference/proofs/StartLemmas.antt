@@ -20,9 +20,9 @@ use Rattle.gg_cut_plan.specs.Direct.{Hub, plan_hub}
 use Rattle.gg_cut_plan.specs.Listed.{first_place, listed_of}
 use Rattle.gg_cut_plan.specs.Plan.{IsCutPart}
 use Rattle.gg_cut_plan.specs.Solves.{AreRows}
-use Rattle.gg_flat.specs.Renaming.{signals_by}
+use Rattle.gg_flat.specs.Renaming.{signals_by, renamed_memory}
 use Rattle.gg_flat.proofs.RenamedLaws.{opening-renamed}
-use Rattle.gg_cut_reference.specs.Reference.{Views, memory_by}
+use Rattle.gg_cut_reference.specs.Reference.{Views}
 use Rattle.gg_cut_reference.specs.Links.{pipes_of}
 use Rattle.gg_cut_reference.specs.Made.{plan_reference, reference_of, views_in}
 use Rattle.gg_bits.specs.Lists.{by_number}
@@ -49,7 +49,7 @@ zeros-at : (n k : ℕ) (places : List ℕ) → map (value_at (replicate n 0)) pl
 zeros-at n k [] = refl
 zeros-at n k (place ∷ places) = ap₂ (λ (x : ℕ) xs. x ∷ xs) (zero-at n place ∙ sym (zero-at k place)) (zeros-at n k places)
 
-banks-by : (to : ℕ → ℕ → ℕ) (n : ℕ) (memories : List Memory) → map (λ memory. opening_bank memory) (by_number (λ m memory. memory_by (to m) memory) n memories) ≡ map (λ memory. opening_bank memory) memories
+banks-by : (to : ℕ → ℕ → ℕ) (n : ℕ) (memories : List Memory) → map (λ memory. opening_bank memory) (by_number (λ m memory. renamed_memory (signals_by (to m)) memory) n memories) ≡ map (λ memory. opening_bank memory) memories
 banks-by to n [] = refl
 banks-by to n (memory ∷ memories) = ap₂ (λ (bank : Bank) banks. bank ∷ banks) (opening-renamed (signals_by (to n)) memory) (banks-by to (suc n) memories)
 

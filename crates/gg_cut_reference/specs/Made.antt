@@ -15,12 +15,13 @@ use Rattle.gg_cut_plan.specs.Listed.{first_place, listed_of, memory_owner}
 use Rattle.gg_cut_plan.specs.Direct.{Hub, hub_of, is_driven, is_piped, plan_hub}
 use Rattle.gg_order.specs.Design.{Ordered}
 use Rattle.gg_partfile.specs.declared.request.Request.{Request}
-use Rattle.gg_cut_reference.specs.Reference.{Views, driver_by, register_by, memory_by}
+use Rattle.gg_cut_reference.specs.Reference.{Views}
 use Rattle.gg_cut_reference.specs.Links.{pipes_of, maker_of, seen_by, views_of}
+use Rattle.gg_flat.specs.Renaming.{renamed_driver, renamed_memory, renamed_register, signals_by}
 
 -- a signal whose driver names the others as the machine sees them in which it stands
 abbrev pub seen_signal : Views → ℕ → Signal → Signal
-seen_signal views s signal = record { ty = signal.ty; driver = driver_by (views.seen (views.maker s)) signal.driver }
+seen_signal views s signal = record { ty = signal.ty; driver = renamed_driver (signals_by (views.seen (views.maker s))) signal.driver }
 
 -- the pipe of a channel of this type, which holds register r
 abbrev pub pipe_signal : ℕ → Signal → Signal
@@ -46,8 +47,8 @@ reference_of one views pipes =
     record {
       paths = one.paths ++ map (λ c. codes "pipe:" ++ path_at one.paths c) pipes;
       signals = by_number (seen_signal views) 0 one.signals ++ pipe_signals one.signals (length one.registers) pipes;
-      registers = by_number (λ r register. register_by (views.seen (views.holder r)) register) 0 one.registers ++ pipe_registers one.signals pipes;
-      memories = by_number (λ m memory. memory_by (views.seen (views.keeper m)) memory) 0 one.memories;
+      registers = by_number (λ r register. renamed_register (signals_by (views.seen (views.holder r))) register) 0 one.registers ++ pipe_registers one.signals pipes;
+      memories = by_number (λ m memory. renamed_memory (signals_by (views.seen (views.keeper m))) memory) 0 one.memories;
       ins = one.ins;
       outs = map views.kept one.outs;
       clocks = one.clocks;

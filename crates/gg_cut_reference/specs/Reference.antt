@@ -1,51 +1,17 @@
 -- The reference circuit of a design with pipes: the design, and for each piped channel a register that takes the channel's
 -- value in each cycle. Where the channel's consumer names the channel, it names the register in its place.
 -- Source: MEMOCODE 2009 (a buffer with a token in it at the start delays a stream by a cycle); this program's profile.
-use Rattle.std.specs.Prelude.{◌≡◌, ◌⊎◌, ℕ, ◌+◌, ◌<◌, List, [], ◌∷◌, ◌++◌, codes, Option, Some, None, length, map, slice_index_or}
+use Rattle.std.specs.Prelude.{◌≡◌, ◌⊎◌, ℕ, ◌+◌, ◌<◌, List, [], ◌∷◌, ◌++◌, codes, Some, None, length, map, slice_index_or}
 use Rattle.gg_bits.specs.Shape.{Shape, shape}
 use Rattle.gg_flat.specs.declared.line.Node.{Node}
-use Rattle.gg_flat.specs.declared.line.Op.{Op}
 use Rattle.gg_flat.specs.declared.line.Op.TheVariants.{Ref}
-use Rattle.gg_flat.specs.declared.memory.Reader.{Reader}
-use Rattle.gg_flat.specs.declared.memory.Writer.{Writer}
 use Rattle.gg_flat.specs.declared.memory.Memory.{Memory}
 use Rattle.gg_flat.specs.declared.piece.Register.{Register}
-use Rattle.gg_flat.specs.declared.piece.Reset.{Reset}
-use Rattle.gg_flat.specs.declared.piece.Driver.{Driver}
 use Rattle.gg_flat.specs.declared.piece.Driver.TheVariants.{Held}
 use Rattle.gg_flat.specs.Line.{value_at, shape_at}
 use Rattle.gg_flat.specs.Circuit.{FlatCircuit, signal_shapes, driver_at}
 use Rattle.gg_flat_tree.specs.Tree.{path_at}
-use Rattle.gg_flat.specs.Renaming.{signals_by, renamed_op, renamed_line, renamed_next, renamed_reset, renamed_driver, renamed_register, renamed_reader, renamed_writer, renamed_memory}
-
--- ---- other names for signals
-
-abbrev pub op_by : (ℕ → ℕ) → Op → Op
-op_by to op = renamed_op to op
-
-abbrev pub line_by : (ℕ → ℕ) → List Node → List Node
-line_by to line = renamed_line to line
-
-abbrev pub register_by : (ℕ → ℕ) → Register → Register
-register_by to register = renamed_register (signals_by to) register
-
-abbrev pub reader_by : (ℕ → ℕ) → Reader → Reader
-reader_by to reader = renamed_reader (signals_by to) reader
-
-abbrev pub writer_by : (ℕ → ℕ) → Writer → Writer
-writer_by to writer = renamed_writer (signals_by to) writer
-
-abbrev pub memory_by : (ℕ → ℕ) → Memory → Memory
-memory_by to memory = renamed_memory (signals_by to) memory
-
-abbrev pub driver_by : (ℕ → ℕ) → Driver → Driver
-driver_by to driver = renamed_driver (signals_by to) driver
-
-abbrev pub next_by : (ℕ → ℕ) → Option (List Node) → Option (List Node)
-next_by to next = renamed_next to next
-
-abbrev pub reset_by : (ℕ → ℕ) → Option Reset → Option Reset
-reset_by to reset = renamed_reset to reset
+use Rattle.gg_flat.specs.Renaming.{signals_by, renamed_driver, renamed_register, renamed_memory}
 
 -- ---- pipes
 
@@ -75,13 +41,13 @@ pub record IsReference (one all : FlatCircuit) (views : Views) (pipes : List ℕ
   pub signals : length all.signals ≡ length one.signals + length pipes
   pub shapes : (s : ℕ) → s < length one.signals → shape_at (signal_shapes all) s ≡ shape_at (signal_shapes one) s
   -- a driver names the other signals as the machine sees them in which it stands
-  pub drivers : (s : ℕ) → s < length one.signals → driver_at all s ≡ driver_by (views.seen (views.maker s)) (driver_at one s)
+  pub drivers : (s : ℕ) → s < length one.signals → driver_at all s ≡ renamed_driver (signals_by (views.seen (views.maker s))) (driver_at one s)
   pub registers : length all.registers ≡ length one.registers + length pipes
   -- so does a register, by the machine that holds it
-  pub register : (r : ℕ) (any other : Register) → r < length one.registers → slice_index_or all.registers r other ≡ register_by (views.seen (views.holder r)) (slice_index_or one.registers r any)
+  pub register : (r : ℕ) (any other : Register) → r < length one.registers → slice_index_or all.registers r other ≡ renamed_register (signals_by (views.seen (views.holder r))) (slice_index_or one.registers r any)
   pub memories : length all.memories ≡ length one.memories
   -- and a memory, by the machine that has it
-  pub memory : (m : ℕ) (any other : Memory) → m < length one.memories → slice_index_or all.memories m other ≡ memory_by (views.seen (views.keeper m)) (slice_index_or one.memories m any)
+  pub memory : (m : ℕ) (any other : Memory) → m < length one.memories → slice_index_or all.memories m other ≡ renamed_memory (signals_by (views.seen (views.keeper m))) (slice_index_or one.memories m any)
   pub paths : all.paths ≡ one.paths ++ map (λ c. codes "pipe:" ++ path_at one.paths c) pipes
   pub ins : all.ins ≡ one.ins
   -- each out-signal as its tray sees it

@@ -6,7 +6,7 @@
 //! - what the text of a plan is (PlanText);
 //! - which designs have the same text (Alike).
 //!
-//! The crate promises:
+//! This module promises:
 //!
 //! - `machine_line` and `channel_line` give the line of a machine and of a channel of a plan;
 //! - each channel of a plan needs in the plan exactly what it needs in the circuit (`needs_are_told`);

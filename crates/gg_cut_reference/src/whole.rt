@@ -1,7 +1,7 @@
 //! The circuit that the network of a plan with bridges computes: the reference circuit of gg_cut_reference with the models of the bridges in it.
 //!
-//! The definitions in `specs/` say what it is, where it starts, and what a run of it is. The crate has laws alone:
-//! its functions compute nothing. For a request without a fault, and models as bridges have them, it promises:
+//! The definitions in `specs/` say what it is, where it starts, and what a run of it is. Its functions are laws:
+//! they compute nothing. For a request without a fault, and models as bridges have them, it promises:
 //!
 //! - the circuit is well formed and has an order of evaluation (`circuit_is_formed`);
 //! - its inputs are those that no bridge drives, and its outputs those that none sees, with the stops behind them (`circuit_has_ports`);

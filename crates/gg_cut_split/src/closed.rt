@@ -1,7 +1,7 @@
 //! The machines of a cut are closed.
 //!
 //! If the entries of a request have no fault, its units are apart: none is the top or is in another (`AreApart` in
-//! `specs/Apart`). The crate has laws alone: its functions compute nothing. For a design and what such a request
+//! `specs/Apart`). Its functions are laws: they compute nothing. For a design and what such a request
 //! lists, it promises:
 //!
 //! - what is listed is apart. If the request has no fault at all, there is at most as much of it, and of the plan's

@@ -15,10 +15,15 @@
 //!
 //! One pass over the order gives all machines their signals. It uses a table of the channel of each signal and a
 //! table of the owner of each signal.
+//!
+//! Two modules have laws alone: `closed` says that the machines of a cut are closed, `again` that duplicate units have the
+//! same, with other numbers.
 #![tactic(auto)]
 
+mod again;
 mod beginning;
 mod channels;
+mod closed;
 mod owned;
 mod parting;
 mod pile;
@@ -26,18 +31,12 @@ mod share;
 mod spread;
 mod tables;
 
+pub use again::units_stand_again;
+pub use closed::{
+    channels_once, listed_apart, machine_closed, machine_makes_part, owner_at_end, owner_by_path,
+};
 pub use owned::{Owned, owned_of};
 pub use parting::split;
 pub use pile::Pile;
 pub use share::{Share, Split};
 pub use spread::{Sides, sides_of};
-
-mod closed;
-
-pub use closed::{
-    channels_once, listed_apart, machine_closed, machine_makes_part, owner_at_end, owner_by_path,
-};
-
-mod again;
-
-pub use again::units_stand_again;

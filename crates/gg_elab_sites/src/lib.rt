@@ -1,7 +1,7 @@
 //! Which flat circuit a circuit has, and what each module declares, read once for building it.
 //!
-//! The crate stands between the checks of a circuit (gg_types, gg_elab_sites) and the crates that make its flat circuit:
-//! gg_elab_tree states laws of it, and gg_elab builds it. The definition `IsFlat` is here.
+//! The crate stands between the checks of a circuit (gg_types) and the crates that make its flat circuit: gg_elab_tree
+//! states laws of it, and gg_elab builds it. The definition `IsFlat` is here.
 //!
 //! The signals of a circuit are those of its top and of every instance below it, by their paths (`flat_signals`). The
 //! same holds for its memories (`flat_memories`). A name that is written at a site stands for the signal whose path
@@ -36,12 +36,9 @@
 //! The definitions are total: what isn't known, or doesn't fit, is 0. This never occurs in a circuit that passed the
 //! checks.
 //!
-//! Counts over a circuit's top and all instances below it, without building the instances, and the limits of the
-//! counts.
-//!
-//! The sites of a circuit are its top and the instances below it (`sites_of`). Four counts are made over the sites:
-//! the depth of the deepest, the signals, the words of all memories and the instances. The first memory in the text
-//! that is too deep is found as well. The crate promises:
+//! The sites of a circuit are its top and the instances below it (`sites_of`). Four counts are made over the sites, without
+//! building them: the depth of the deepest, the signals, the words of all memories and the instances. The first memory in
+//! the text that is too deep is found as well. The crate promises:
 //!
 //! - `count` gives each count as it is defined over the sites (`counts_of`). Each count takes one pass over the
 //!   modules, regardless of the number of sites. A count saturates at 18,446,744,073,709,551,615;
@@ -52,17 +49,20 @@
 
 mod clocks;
 mod connections;
+mod counts;
 mod digest;
 mod known;
 mod laws;
 mod names;
 mod own;
+mod pass;
 mod sites;
 mod stops;
 mod table;
 
 pub use clocks::{clock_count, clock_of, port_clock};
 pub use connections::{Sinks, Source};
+pub use counts::{Counts, Excess, Measure, count};
 pub use digest::{Digest, Instance, OwnMemory, digests};
 pub use known::value_type;
 pub use laws::one_flat;
@@ -71,8 +71,3 @@ pub use own::{Origin, OwnSignal};
 pub use sites::{Around, Place, Step, places};
 pub use stops::OwnStop;
 pub use table::{Table, add_path, number, table_of};
-
-mod counts;
-mod pass;
-
-pub use counts::{Counts, Excess, Measure, count};

@@ -20,6 +20,10 @@ pub record Renaming : Type 0 where
   pub memories : ℕ → ℕ
   pub clocks : Option ℕ → Option ℕ
 
+-- other numbers of signals, of registers and of memories
+abbrev pub numbers_by : (signals registers memories : ℕ → ℕ) → Renaming
+numbers_by signals registers memories = record { signals = signals; registers = registers; memories = memories; clocks = λ clock. clock }
+
 -- other numbers of signals alone
 abbrev pub signals_by : (ℕ → ℕ) → Renaming
 signals_by to = record { signals = to; registers = λ r. r; memories = λ m. m; clocks = λ clock. clock }

@@ -42,11 +42,12 @@ use Rattle.gg_elab_tree.proofs.RegisterClockLemmas.{clocks-at}
 use Rattle.gg_elab_tree.proofs.JoinLemmas.{joined-behind}
 use Rattle.gg_elab_tree.proofs.OwnLemmas.{Pairwise-at}
 use Rattle.gg_elab_tree.proofs.PairwiseLemmas.{Pairwise-length}
-use Rattle.gg_part.specs.Moved.{IsMoved, moved_reader, moved_writer, moved_memory, moved_line, moved_driver, moved_reset, moved_next, moved_register, shifted, unclocked_memory, unclocked_reader, unclocked_register, unclocked_writer}
+use Rattle.gg_part.specs.Moved.{IsMoved, shifted, unclocked_memory, unclocked_reader, unclocked_register, unclocked_writer}
 use Rattle.gg_front.proofs.LikeSites.{AreLikeScopes, AreLikeDrives, AreLikeSignals, AreLikeMemories}
 use Rattle.gg_front.proofs.LikeSites as like
 use Rattle.gg_front.proofs.CopyLineLemmas.{SamePaths, number-moved, moved_laid, line-moved, taken-moved, condition-moved, connected-moved}
 use Rattle.gg_elab_sites.proofs.TyLemmas.{ty-equal}
+use Rattle.gg_flat.specs.Renaming.{numbers_by, renamed_driver, renamed_line, renamed_memory, renamed_next, renamed_reader, renamed_register, renamed_reset, renamed_writer, signals_by}
 
 -- ---- a stretch of a list
 
@@ -185,7 +186,7 @@ register-same types modules u v path d e (like.Connected a b c l one other) = ap
 register-same types modules u v path d e (like.Kept a b reset next own clock clock' l one other) = ap is_register one ∙ sym (ap is_register other)
 register-same types modules u v path d e (like.Answered m n place latency addr addr' en en' lm la le one other) = ap is_register one ∙ sym (ap is_register other)
 
-answer-moved : (to registers memories : ℕ → ℕ) (latency : Latency) (m place addr en : ℕ) → answer latency (memories m) place (to addr) (to en) ≡ moved_driver to registers memories (answer latency m place addr en)
+answer-moved : (to registers memories : ℕ → ℕ) (latency : Latency) (m place addr en : ℕ) → answer latency (memories m) place (to addr) (to en) ≡ renamed_driver (numbers_by to registers memories) (answer latency m place addr en)
 answer-moved to registers memories Zero m place addr en = refl
 answer-moved to registers memories (One under) m place addr en = refl
 
@@ -274,7 +275,7 @@ module _ (types : Types) (modules : List ModuleTree) (u v : Site) (all : List Fl
   module _ (mf mg memories : ℕ) (banks_differ : Differ (memory_paths banks)) (banks_same : SamePaths (memory_paths banks) u.path v.path mf mg memories)
       (fields : (s place : ℕ) (latency : Latency) (m addr en : List ℕ) → s < size → (get_or p s none).drive ≡ Answers m place latency addr en → IsThere (memory_paths banks) mf memories m × (IsThere (paths_of all) f size addr × IsThere (paths_of all) f size en)) where
     abbrev moved : Driver → Driver
-    moved driver = moved_driver (shifted f g) (shifted (registers_before f) (registers_before g)) (shifted mf mg) driver
+    moved driver = renamed_driver (numbers_by (shifted f g) (shifted (registers_before f) (registers_before g)) (shifted mf mg)) driver
 
     computed-moved : (s : ℕ) → s < size → Closed f s → Closed g s → (a b : Scope) (c : Option Connection) → AreLikeScopes u.path v.path a b → Driven (f + s) (Gets a c) → Driven (g + s) (Gets b c) → driver_at flat (g + s) ≡ moved (driver_at flat (f + s))
     computed-moved s lt here there a b c l hu hv =
@@ -324,8 +325,8 @@ module _ (types : Types) (modules : List ModuleTree) (u v : Site) (all : List Fl
     to_there t = shifted f g t
 
     module _ (a b : Scope) (l : AreLikeScopes u.path v.path a b) (sink sink' : Shape) (sinks : sink' ≡ sink) where
-      next-same : (asked : Option Connection) (x y : Option (List Node)) → HasNext (in_scope bound a) sink asked x → HasNext (in_scope bound b) sink' asked y → ClosedBy (NextNames x) f → ClosedBy (NextNames y) g → y ≡ moved_next to_there x
-      next-same None x y h k here there = k ∙ sym (ap (moved_next to_there) h)
+      next-same : (asked : Option Connection) (x y : Option (List Node)) → HasNext (in_scope bound a) sink asked x → HasNext (in_scope bound b) sink' asked y → ClosedBy (NextNames x) f → ClosedBy (NextNames y) g → y ≡ renamed_next to_there x
+      next-same None x y h k here there = k ∙ sym (ap (renamed_next to_there) h)
       next-same (Some c) None y h k here there = absurd h
       next-same (Some c) (Some x) None h k here there = absurd k
       next-same (Some c) (Some x) (Some y) h k here there =
@@ -337,18 +338,18 @@ module _ (types : Types) (modules : List ModuleTree) (u v : Site) (all : List Fl
           (record { here = λ t n. here t ((h.names t).1 n); there = λ t n. there t ((k.names t).1 n) })
           ∙ ap (map (moved_laid to_there)) (sym h.nodes)))
 
-      reset-same : (asked : Option given.Reset) (x y : Option kept.Reset) → HasReset (in_scope bound a) sink asked x → HasReset (in_scope bound b) sink' asked y → ClosedBy (ResetNames x) f → ClosedBy (ResetNames y) g → y ≡ moved_reset to_there x
-      reset-same None x y h k here there = k ∙ sym (ap (moved_reset to_there) h)
+      reset-same : (asked : Option given.Reset) (x y : Option kept.Reset) → HasReset (in_scope bound a) sink asked x → HasReset (in_scope bound b) sink' asked y → ClosedBy (ResetNames x) f → ClosedBy (ResetNames y) g → y ≡ renamed_reset to_there x
+      reset-same None x y h k here there = k ∙ sym (ap (renamed_reset to_there) h)
       reset-same (Some asked) None y h k here there = absurd h
       reset-same (Some asked) (Some x) None h k here there = absurd k
       reset-same (Some asked) (Some x) (Some y) h k here there =
-          let condition : y.condition ≡ moved_line to_there x.condition =
+          let condition : y.condition ≡ renamed_line to_there x.condition =
           line-moved to_there x.condition y.condition
           (k.0.nodes
           ∙ condition-moved bound u.path v.path f g size differ paths-same shapes-same a b l asked.condition
           (record { here = λ t n. here t (inl ((h.0.names t).1 n)); there = λ t n. there t (inl ((k.0.names t).1 n)) })
           ∙ ap (map (moved_laid to_there)) (sym h.0.nodes)) in
-          let init : y.init ≡ moved_line to_there x.init =
+          let init : y.init ≡ renamed_line to_there x.init =
           line-moved to_there x.init y.init
           (k.1.nodes
           ∙ ap (λ (s : Shape). taken_line (in_scope bound b) s asked.init) sinks
@@ -357,7 +358,7 @@ module _ (types : Types) (modules : List ModuleTree) (u v : Site) (all : List Fl
           ∙ ap (map (moved_laid to_there)) (sym h.1.nodes)) in
           ap₂ (λ c i. Some (reset_made c i)) condition init
 
-      register-of : (reset : Option given.Reset) (next : Option Connection) (clock clock' : Option ℕ) (x y : Register) → IsRegisterOf (in_scope bound a) sink reset next clock x → IsRegisterOf (in_scope bound b) sink' reset next clock' y → ClosedBy (RegisterNames x) f → ClosedBy (RegisterNames y) g → unclocked_register y ≡ unclocked_register (moved_register to_there x)
+      register-of : (reset : Option given.Reset) (next : Option Connection) (clock clock' : Option ℕ) (x y : Register) → IsRegisterOf (in_scope bound a) sink reset next clock x → IsRegisterOf (in_scope bound b) sink' reset next clock' y → ClosedBy (RegisterNames x) f → ClosedBy (RegisterNames y) g → unclocked_register y ≡ unclocked_register (renamed_register (signals_by to_there) x)
       register-of reset next clock clock' x y h k here there =
           ap (λ t. register_made t y.reset y.next) (ty-equal y.ty x.ty (k.typed ∙ sinks ∙ sym h.typed))
           ∙ ap₂ (λ r n. register_made x.ty r n)
@@ -368,7 +369,7 @@ module _ (types : Types) (modules : List ModuleTree) (u v : Site) (all : List Fl
     register-copied : (s : ℕ) → s < size → (a b : Scope) (reset : Option given.Reset) (next : Option Connection) (own clock clock' : Option ℕ) → AreLikeScopes u.path v.path a b → (get_or p s none).drive ≡ Holds a reset next own clock → (get_or q s none).drive ≡ Holds b reset next own clock' → (any : Register)
         → ClosedBy (RegisterNames (slice_index_or flat.registers (count_before is_register all (f + s)) any)) f
         → ClosedBy (RegisterNames (slice_index_or flat.registers (count_before is_register all (g + s)) any)) g
-        → unclocked_register (slice_index_or flat.registers (count_before is_register all (g + s)) any) ≡ unclocked_register (moved_register to_there (slice_index_or flat.registers (count_before is_register all (f + s)) any))
+        → unclocked_register (slice_index_or flat.registers (count_before is_register all (g + s)) any) ≡ unclocked_register (renamed_register (signals_by to_there) (slice_index_or flat.registers (count_before is_register all (f + s)) any))
     register-copied s lt a b reset next own clock clock' l d e any here there =
         let hu = driven-at f p one s lt (Holds a reset next own clock) d in
         let hv = driven-at g q other s (omega (arith, lt, size-same)) (Holds b reset next own clock') e in
@@ -378,7 +379,7 @@ module _ (types : Types) (modules : List ModuleTree) (u v : Site) (all : List Fl
     -- of its own site.
     pub record IsHeldAgain (r : ℕ) (any : Register) : Type 0 where
       pub own : Option ℕ
-      pub again : unclocked_register (slice_index_or flat.registers (shifted (registers_before f) (registers_before g) r) any) ≡ unclocked_register (moved_register to_there (slice_index_or flat.registers r any))
+      pub again : unclocked_register (slice_index_or flat.registers (shifted (registers_before f) (registers_before g) r) any) ≡ unclocked_register (renamed_register (signals_by to_there) (slice_index_or flat.registers r any))
       pub here : get_or (clocks_held all) r None ≡ own
       pub there : get_or (clocks_held all) (shifted (registers_before f) (registers_before g) r) None ≡ own
 
@@ -428,7 +429,7 @@ module _ (types : Types) (modules : List ModuleTree) (u v : Site) (all : List Fl
                   ∙ register-copied s lt a b reset next own clock clock' l d e any
                   (subst (λ (k : ℕ). ClosedBy (RegisterNames (slice_index_or flat.registers k any)) f) (sym r_is) (here (subst (λ (k : ℕ). k < length flat.registers) r_is hu.within)))
                   (subst (λ (k : ℕ). ClosedBy (RegisterNames (slice_index_or flat.registers k any)) g) (sym r_there) (there (subst (λ (k : ℕ). k < length flat.registers) r_there hv.within)))
-                  ∙ ap (λ (k : ℕ). unclocked_register (moved_register to_there (slice_index_or flat.registers k any))) r_is;
+                  ∙ ap (λ (k : ℕ). unclocked_register (renamed_register (signals_by to_there) (slice_index_or flat.registers k any))) r_is;
               here = ap (λ (k : ℕ). get_or (clocks_held all) k None) (sym r_is) ∙ followed-at f p one s lt a reset next own clock d;
               there = ap (λ (k : ℕ). get_or (clocks_held all) k None) (sym r_there) ∙ followed-at g q other s (omega (arith, lt, size-same)) b reset next own clock' e;
             })
@@ -439,7 +440,7 @@ module _ (types : Types) (modules : List ModuleTree) (u v : Site) (all : List Fl
     pub memory-copied : (x y : FlatMemory) (m n : Memory) → AreLikeMemories u v x y → IsMemoryOf (paths_of all) x m → IsMemoryOf (paths_of all) y n
         → ((port word : List ℕ) → Contains x.bank.readers port → Contains (codes "addr" ∷ codes "en" ∷ codes "data" ∷ []) word → IsThere (paths_of all) f size (field_name x.path port word))
         → ((port word : List ℕ) → Contains x.bank.writers port → Contains (codes "addr" ∷ codes "en" ∷ codes "data" ∷ codes "mask" ∷ []) word → IsThere (paths_of all) f size (field_name x.path port word))
-        → unclocked_memory n ≡ unclocked_memory (moved_memory to_there m)
+        → unclocked_memory n ≡ unclocked_memory (renamed_memory (signals_by to_there) m)
     memory-copied x y m n l h k readers writers =
         ap (λ t. memory_made t n.depth n.latency (unclocked_readers n.readers) (unclocked_writers n.writers)) (ty-equal n.word m.word (k.word ∙ ap (λ (b : Bank). b.word) (sym l.bank) ∙ sym h.word))
         ∙ ap (λ t. memory_made m.word t n.latency (unclocked_readers n.readers) (unclocked_writers n.writers)) (k.depth ∙ ap (λ (b : Bank). b.depth) (sym l.bank) ∙ sym h.depth)
@@ -448,18 +449,18 @@ module _ (types : Types) (modules : List ModuleTree) (u v : Site) (all : List Fl
         (ap unclocked_readers k.readers
         ∙ ap (λ (b : Bank). unclocked_readers (map (reader_of (paths_of all) y) b.readers)) (sym l.bank)
         ∙ map-map unclocked_reader (reader_of (paths_of all) y) x.bank.readers
-        ∙ map-among (λ port. unclocked_reader (reader_of (paths_of all) y port)) (λ port. unclocked_reader (moved_reader to_there (reader_of (paths_of all) x port))) x.bank.readers (λ port c. reader-same port (λ word w. readers port word c w))
-        ∙ sym (map-map (λ (r : Reader). unclocked_reader (moved_reader to_there r)) (reader_of (paths_of all) x) x.bank.readers)
-        ∙ sym (map-map unclocked_reader (moved_reader to_there) (map (reader_of (paths_of all) x) x.bank.readers))
-        ∙ ap (λ (rs : List Reader). unclocked_readers (map (moved_reader to_there) rs)) (sym h.readers))
-        ∙ ap (λ t. memory_made m.word m.depth m.latency (unclocked_readers (map (moved_reader to_there) m.readers)) t)
+        ∙ map-among (λ port. unclocked_reader (reader_of (paths_of all) y port)) (λ port. unclocked_reader (renamed_reader (signals_by to_there) (reader_of (paths_of all) x port))) x.bank.readers (λ port c. reader-same port (λ word w. readers port word c w))
+        ∙ sym (map-map (λ (r : Reader). unclocked_reader (renamed_reader (signals_by to_there) r)) (reader_of (paths_of all) x) x.bank.readers)
+        ∙ sym (map-map unclocked_reader (renamed_reader (signals_by to_there)) (map (reader_of (paths_of all) x) x.bank.readers))
+        ∙ ap (λ (rs : List Reader). unclocked_readers (map (renamed_reader (signals_by to_there)) rs)) (sym h.readers))
+        ∙ ap (λ t. memory_made m.word m.depth m.latency (unclocked_readers (map (renamed_reader (signals_by to_there)) m.readers)) t)
         (ap unclocked_writers k.writers
         ∙ ap (λ (b : Bank). unclocked_writers (map (writer_of (paths_of all) y) b.writers)) (sym l.bank)
         ∙ map-map unclocked_writer (writer_of (paths_of all) y) x.bank.writers
-        ∙ map-among (λ port. unclocked_writer (writer_of (paths_of all) y port)) (λ port. unclocked_writer (moved_writer to_there (writer_of (paths_of all) x port))) x.bank.writers (λ port c. writer-same port (λ word w. writers port word c w))
-        ∙ sym (map-map (λ (w : Writer). unclocked_writer (moved_writer to_there w)) (writer_of (paths_of all) x) x.bank.writers)
-        ∙ sym (map-map unclocked_writer (moved_writer to_there) (map (writer_of (paths_of all) x) x.bank.writers))
-        ∙ ap (λ (ws : List Writer). unclocked_writers (map (moved_writer to_there) ws)) (sym h.writers))
+        ∙ map-among (λ port. unclocked_writer (writer_of (paths_of all) y port)) (λ port. unclocked_writer (renamed_writer (signals_by to_there) (writer_of (paths_of all) x port))) x.bank.writers (λ port c. writer-same port (λ word w. writers port word c w))
+        ∙ sym (map-map (λ (w : Writer). unclocked_writer (renamed_writer (signals_by to_there) w)) (writer_of (paths_of all) x) x.bank.writers)
+        ∙ sym (map-map unclocked_writer (renamed_writer (signals_by to_there)) (map (writer_of (paths_of all) x) x.bank.writers))
+        ∙ ap (λ (ws : List Writer). unclocked_writers (map (renamed_writer (signals_by to_there)) ws)) (sym h.writers))
       where
         field-moved : (port word : List ℕ) → IsMoved u.path v.path (field_name x.path port word) (field_name y.path port word)
         field-moved port word = record {
@@ -474,13 +475,13 @@ module _ (types : Types) (modules : List ModuleTree) (u v : Site) (all : List Fl
         number : (port word : List ℕ) → IsThere (paths_of all) f size (field_name x.path port word) → number_of (paths_of all) (field_name y.path port word) ≡ to_there (number_of (paths_of all) (field_name x.path port word))
         number port word t = found-moved (paths_of all) u.path v.path f g size differ paths-same (field_name x.path port word) (field_name y.path port word) (field-moved port word) t.0 t.1 t.2
 
-        reader-same : (port : List ℕ) → ((word : List ℕ) → Contains (codes "addr" ∷ codes "en" ∷ codes "data" ∷ []) word → IsThere (paths_of all) f size (field_name x.path port word)) → unclocked_reader (reader_of (paths_of all) y port) ≡ unclocked_reader (moved_reader to_there (reader_of (paths_of all) x port))
+        reader-same : (port : List ℕ) → ((word : List ℕ) → Contains (codes "addr" ∷ codes "en" ∷ codes "data" ∷ []) word → IsThere (paths_of all) f size (field_name x.path port word)) → unclocked_reader (reader_of (paths_of all) y port) ≡ unclocked_reader (renamed_reader (signals_by to_there) (reader_of (paths_of all) x port))
         reader-same port there =
             ap₂ (λ a e. reader_made a e (number_of (paths_of all) (field_name y.path port (codes "data"))))
             (number port (codes "addr") (there (codes "addr") (0, lit≤ tt, refl))) (number port (codes "en") (there (codes "en") (1, lit≤ tt, refl)))
             ∙ ap (λ d. reader_made (moved_at port (codes "addr")) (moved_at port (codes "en")) d) (number port (codes "data") (there (codes "data") (2, lit≤ tt, refl)))
 
-        writer-same : (port : List ℕ) → ((word : List ℕ) → Contains (codes "addr" ∷ codes "en" ∷ codes "data" ∷ codes "mask" ∷ []) word → IsThere (paths_of all) f size (field_name x.path port word)) → unclocked_writer (writer_of (paths_of all) y port) ≡ unclocked_writer (moved_writer to_there (writer_of (paths_of all) x port))
+        writer-same : (port : List ℕ) → ((word : List ℕ) → Contains (codes "addr" ∷ codes "en" ∷ codes "data" ∷ codes "mask" ∷ []) word → IsThere (paths_of all) f size (field_name x.path port word)) → unclocked_writer (writer_of (paths_of all) y port) ≡ unclocked_writer (renamed_writer (signals_by to_there) (writer_of (paths_of all) x port))
         writer-same port there =
             ap₂ (λ a e. writer_made a e (number_of (paths_of all) (field_name y.path port (codes "data"))) (number_of (paths_of all) (field_name y.path port (codes "mask"))))
             (number port (codes "addr") (there (codes "addr") (0, lit≤ tt, refl))) (number port (codes "en") (there (codes "en") (1, lit≤ tt, refl)))

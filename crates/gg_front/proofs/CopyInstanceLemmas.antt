@@ -41,7 +41,7 @@ use Rattle.gg_elab_tree.proofs.RangeLemmas.{Ranges, count_to, placed-count}
 use Rattle.gg_elab_tree.proofs.ScopeOfTreeLemmas.{HasApartNames}
 use Rattle.gg_elab_tree.proofs.TreeLemmas.{HasDistinctPaths, HasPlainNames, no_own, no_port, port-at, path-is}
 use Rattle.gg_elab_tree.proofs.VisibleLemmas.{HasKnownNames}
-use Rattle.gg_part.specs.Moved.{IsMoved, moved_driver, moved_register, moved_memory, moved_port, shifted, unclocked_memory, unclocked_register}
+use Rattle.gg_part.specs.Moved.{IsMoved, moved_port, shifted, unclocked_memory, unclocked_register}
 use Rattle.gg_part.specs.Copies.{Start, IsCopy, HasCopies}
 use Rattle.gg_front.proofs.LikeSites.{AreLikeSignals, AreLikeMemories}
 use Rattle.gg_front.proofs.CopyBelowLemmas.{sites_like, instance-moved, own-clocks, clocks-moved, parent-moved, stop-moved}
@@ -54,6 +54,7 @@ use Rattle.gg_front.proofs.CopyClockLemmas.{clocks-alike}
 use Rattle.gg_front.proofs.CopyClosedLemmas.{driver-in, register-in}
 use Rattle.gg_front.proofs.CopyInputLemmas.{input-there, input-here}
 use Rattle.gg_front.proofs.CopyInsideLemmas.{memory-inside}
+use Rattle.gg_flat.specs.Renaming.{numbers_by, renamed_driver, renamed_memory, renamed_register, signals_by}
 
 -- a register for where there is none
 abbrev some_register : Register
@@ -206,7 +207,7 @@ module _ (circuit : CircuitTree) (flat : FlatCircuit) (tree : InstanceTree) (top
 
     -- the driver of each signal but the inputs moves
     pub driver-copied : (s : ℕ) → s < length p → ¬ IsInputOf tree i (from_site i + s)
-        → driver_at flat (from_site j + s) ≡ moved_driver (shifted (from_site i) (from_site j)) (shifted (registers_before (from_site i)) (registers_before (from_site j))) (shifted (from_memory i) (from_memory j)) (driver_at flat (from_site i + s))
+        → driver_at flat (from_site j + s) ≡ renamed_driver (numbers_by (shifted (from_site i) (from_site j)) (shifted (registers_before (from_site i)) (registers_before (from_site j))) (shifted (from_memory i) (from_memory j))) (driver_at flat (from_site i + s))
     driver-copied s lt inner =
         elim (driver-moved (types_of circuit) circuit.modules u v all (memories_of circuit) (top_ports circuit.modules (place_of circuit.name (module_names circuit))) (stop_paths circuit.modules (sites_of circuit)) flat is_flat distinct.of_signals (from_site i) (from_site j) p q one other like (from_memory i) (from_memory j) (length mp) distinct.of_memories banks-same fields s lt here there) [
           | inl at ↦ absurd (inner (here-in s lt at))
@@ -274,19 +275,19 @@ module _ (circuit : CircuitTree) (flat : FlatCircuit) (tree : InstanceTree) (top
         ∙ sym (ap₂ (λ (shapes : List Shape) (n : ℕ). shape_at shapes n) is_flat.shapes (sym k.here))
 
     driver-at : (s : ℕ) → Holds (instance_at tree i) s → ¬ IsInputOf tree i s
-        → driver_at flat (to_there s) ≡ moved_driver (shifted (from_site i) (from_site j)) (shifted (registers_before (from_site i)) (registers_before (from_site j))) (shifted (from_memory i) (from_memory j)) (driver_at flat s)
+        → driver_at flat (to_there s) ≡ renamed_driver (numbers_by (shifted (from_site i) (from_site j)) (shifted (registers_before (from_site i)) (registers_before (from_site j))) (shifted (from_memory i) (from_memory j))) (driver_at flat s)
     driver-at s h inner =
         let k = in-place s h in
         ap (driver_at flat) (sym k.there)
         ∙ driver-copied k.place k.inside (λ input. inner (subst (λ (n : ℕ). IsInputOf tree i n) k.here input))
-        ∙ ap (λ (n : ℕ). moved_driver (shifted (from_site i) (from_site j)) (shifted (registers_before (from_site i)) (registers_before (from_site j))) (shifted (from_memory i) (from_memory j)) (driver_at flat n)) k.here
+        ∙ ap (λ (n : ℕ). renamed_driver (numbers_by (shifted (from_site i) (from_site j)) (shifted (registers_before (from_site i)) (registers_before (from_site j))) (shifted (from_memory i) (from_memory j))) (driver_at flat n)) k.here
 
     abbrev register_there : ℕ → ℕ
     register_there r = shifted (registers_before (from_site i)) (registers_before (from_site j)) r
 
     -- a register is the same but for its clock, and follows the same Clock input of its site
     register-again : (s r : ℕ) (any : Register) → Holds (instance_at tree i) s → ¬ IsInputOf tree i s → driver_at flat s ≡ Held r
-        → (unclocked_register (slice_index_or flat.registers (register_there r) any) ≡ unclocked_register (moved_register to_there (slice_index_or flat.registers r any))) × (get_or (clocks_held all) (register_there r) None ≡ get_or (clocks_held all) r None)
+        → (unclocked_register (slice_index_or flat.registers (register_there r) any) ≡ unclocked_register (renamed_register (signals_by to_there) (slice_index_or flat.registers r any))) × (get_or (clocks_held all) (register_there r) None ≡ get_or (clocks_held all) r None)
     register-again s r any h inner held =
         elim (held-copied (types_of circuit) circuit.modules u v all (memories_of circuit) (top_ports circuit.modules (place_of circuit.name (module_names circuit))) (stop_paths circuit.modules (sites_of circuit)) flat is_flat distinct.of_signals (from_site i) (from_site j) p q one other like (from_memory i) (from_memory j) (length mp) distinct.of_memories banks-same fields k.place r k.inside held-here any here there) [
           | inl at ↦ absurd (inner (subst (λ (n : ℕ). IsInputOf tree i n) k.here (here-in k.place k.inside at)))
@@ -308,7 +309,7 @@ module _ (circuit : CircuitTree) (flat : FlatCircuit) (tree : InstanceTree) (top
         held-there : driver_at flat (from_site j + k.place) ≡ Held moved_number
         held-there =
             driver-copied k.place k.inside inner-here
-            ∙ ap (moved_driver (shifted (from_site i) (from_site j)) (shifted (registers_before (from_site i)) (registers_before (from_site j))) (shifted (from_memory i) (from_memory j))) held-here
+            ∙ ap (renamed_driver (numbers_by (shifted (from_site i) (from_site j)) (shifted (registers_before (from_site i)) (registers_before (from_site j))) (shifted (from_memory i) (from_memory j)))) held-here
 
         here : r < length flat.registers → (t : ℕ) → RegisterNames (slice_index_or flat.registers r any) t → (from_site i ≤ t) × (t < from_site i + length p)
         here within t names =
@@ -326,12 +327,12 @@ module _ (circuit : CircuitTree) (flat : FlatCircuit) (tree : InstanceTree) (top
         ∙ (register-again s r some_register h inner held).1
         ∙ sym (ap (λ (l : List (Option ℕ)). get_or l r None) is_tree.register_clocks)
 
-    memory-at : (m : ℕ) (any : Memory) → from_memory i ≤ m → m < from_memory i + length mp → unclocked_memory (slice_index_or flat.memories (shifted (from_memory i) (from_memory j) m) any) ≡ unclocked_memory (moved_memory to_there (slice_index_or flat.memories m any))
+    memory-at : (m : ℕ) (any : Memory) → from_memory i ≤ m → m < from_memory i + length mp → unclocked_memory (slice_index_or flat.memories (shifted (from_memory i) (from_memory j) m) any) ≡ unclocked_memory (renamed_memory (signals_by to_there) (slice_index_or flat.memories m any))
     memory-at m any low high =
         ap (λ (n : ℕ). unclocked_memory (slice_index_or flat.memories n any)) (sym there)
         ∙ memory-copied (types_of circuit) circuit.modules u v all (memories_of circuit) (top_ports circuit.modules (place_of circuit.name (module_names circuit))) (stop_paths circuit.modules (sites_of circuit)) flat is_flat distinct.of_signals (from_site i) (from_site j) p q one other like (from_memory i) (from_memory j) (length mp) distinct.of_memories banks-same fields
         x.element y.element _ _ same_bank is_here is_there readers writers
-        ∙ ap (λ (n : ℕ). unclocked_memory (moved_memory to_there (slice_index_or flat.memories n any))) here
+        ∙ ap (λ (n : ℕ). unclocked_memory (renamed_memory (signals_by to_there) (slice_index_or flat.memories n any))) here
       where
         k : ℕ
         k = m - from_memory i

@@ -24,9 +24,10 @@ use Rattle.gg_elab_sites.specs.Lines.{Laid, laid_node, laid, with_laid, with_sig
 use Rattle.gg_elab_sites.specs.Meaning.{Signals, Bindings, in_scope, named, named_if, shape_named, accepted, term_shape, takes, TermNames, ConnectionNames}
 use Rattle.gg_elab_sites.proofs.NameLemmas.{Differ, place_of-at, place_of-path}
 use Rattle.gg_elab_tree.proofs.ApartLemmas.{joined-same}
-use Rattle.gg_part.specs.Moved.{moved_op, moved_node, moved_line, shifted}
+use Rattle.gg_part.specs.Moved.{shifted}
 use Rattle.gg_front.proofs.LikeSites.{AreLikeScopes}
 use Rattle.gg_elab_sites.proofs.OneLemmas.{line-same}
+use Rattle.gg_flat.specs.Renaming.{renamed_line, renamed_node, renamed_op}
 
 -- ---- numbers
 
@@ -53,15 +54,15 @@ number-moved paths from to f g size differ h w t is low high =
 -- ---- nodes
 
 abbrev pub moved_laid : (ℕ → ℕ) → Laid → Laid
-moved_laid to n = record { shape = n.shape; op = moved_op to n.op }
+moved_laid to n = record { shape = n.shape; op = renamed_op to n.op }
 
 abbrev laid_made : Shape → Op → Laid
 laid_made sort op = record { shape = sort; op = op }
 
-node-moved : (to : ℕ → ℕ) (x : List Laid) (sort : Shape) (op : Op) → with_laid (map (moved_laid to) x) sort (moved_op to op) ≡ map (moved_laid to) (with_laid x sort op)
+node-moved : (to : ℕ → ℕ) (x : List Laid) (sort : Shape) (op : Op) → with_laid (map (moved_laid to) x) sort (renamed_op to op) ≡ map (moved_laid to) (with_laid x sort op)
 node-moved to x sort op = sym (map-append (moved_laid to) x (laid_made sort op ∷ []))
 
-result-moved : (to : ℕ → ℕ) (x : List Laid) (r : Result Shape Bad) (op : Op) → with_result (map (moved_laid to) x) r (moved_op to op) ≡ map (moved_laid to) (with_result x r op)
+result-moved : (to : ℕ → ℕ) (x : List Laid) (r : Result Shape Bad) (op : Op) → with_result (map (moved_laid to) x) r (renamed_op to op) ≡ map (moved_laid to) (with_result x r op)
 result-moved to x (Ok sort) op = node-moved to x sort op
 result-moved to x (Err bad) op = node-moved to x (uint 1) (Literal (record { 0 = 0 }))
 
@@ -81,8 +82,8 @@ last-moved : (to : ℕ → ℕ) (x : List Laid) → last_of (map (moved_laid to)
 last-moved to x = ap (λ (n : ℕ). n - 1) (length-map x (moved_laid to))
 
 -- a line whose nodes are those of another, with other numbers
-pub line-moved : (to : ℕ → ℕ) (one other : List Node) → laid other ≡ map (moved_laid to) (laid one) → other ≡ moved_line to one
-line-moved to one other h = line-same other (moved_line to one) (h ∙ map-map (moved_laid to) laid_node one ∙ sym (map-map laid_node (moved_node to) one))
+pub line-moved : (to : ℕ → ℕ) (one other : List Node) → laid other ≡ map (moved_laid to) (laid one) → other ≡ renamed_line to one
+line-moved to one other h = line-same other (renamed_line to one) (h ∙ map-map (moved_laid to) laid_node one ∙ sym (map-map laid_node (renamed_node to) one))
 
 -- ---- references
 

@@ -14,9 +14,7 @@
 //! - `one_fault`: two faults of a text are the same, except that any ring of modules and any loop may be reported.
 //! - `faults_apart`: an accepted text has no fault, and a text with a fault of reading has no fault of a circuit.
 //!
-//! What holds of the circuit that a text spells and of its flat circuit: copies of instances, and words of paths.
-//!
-//! The crate has laws alone: its functions compute nothing. They say:
+//! Further laws, whose functions compute nothing, say what holds of the circuit that a text spells and of its flat circuit:
 //!
 //! - `copies`: in the flat circuit of a circuit that passed the checks, any two instances of one module have the same
 //!   signals, drivers, registers, memories and instances below them, but for a shift of their numbers and the front of
@@ -30,16 +28,14 @@
 
 mod fault;
 mod front_end;
+mod instances;
 mod laws;
+mod paths;
 
 pub use fault::FrontFault;
 pub use front_end::front;
+pub use instances::copies;
 pub use laws::{
     acceptance_agrees, each_has_design, each_has_one_run, faults_apart, one_fault, one_meaning,
 };
-
-mod instances;
-mod paths;
-
-pub use instances::copies;
 pub use paths::{no_bridge_names, no_pipe_names, paths_are_words, spelt_names};

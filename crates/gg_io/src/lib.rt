@@ -17,10 +17,9 @@
 //! system's files and streams. Their contents are unknown to contracts, and what the system reads and writes is trusted.
 //! Only a load or a put can change their counts.
 //!
-//! Orders of files: a command loads its files one after another, judges each, and then writes a text.
-//!
-//! An order says which file comes next, which bytes of it are accepted, and what is reported for the others. It doesn't
-//! say what the files are. A command ends if a file is refused, after each file before it was accepted; if a put fails;
+//! A command loads its files one after another, judges each, and then writes a text. An order of files says which file
+//! comes next, which bytes of it are accepted, and what is reported for the others. It doesn't say what the files are. A
+//! command ends if a file is refused, after each file before it was accepted; if a put fails;
 //! if an allocation fails; or with its whole text (`Ends`). For a function that returns an [`Ending`] its clause is
 //! `EndedOn`.
 //!
@@ -29,28 +28,26 @@
 #![tactic(auto)]
 
 mod counts;
+mod endings;
 mod file_shelf;
 mod files;
+mod loading;
 mod mem_files;
 mod mem_shelf;
 mod mem_sink;
 mod output;
 mod stream_sink;
 mod turns;
+mod writing;
 
+pub use endings::{Ending, Refusal, end_with, make_refusal, text_with_number};
 pub use file_shelf::FileShelf;
 pub use files::{LoadFail, Shelf};
+pub use loading::load;
 pub use mem_files::{MemFiles, hold};
 pub use mem_shelf::{MemShelf, SureShelf};
 pub use mem_sink::{FailingPut, MemSink, SureSink};
 pub use output::{PutFail, Sink};
 pub use stream_sink::StreamSink;
 pub use turns::{Gate, NoGate};
-
-mod endings;
-mod loading;
-mod writing;
-
-pub use endings::{Ending, Refusal, end_with, make_refusal, text_with_number};
-pub use loading::load;
 pub use writing::{put, report};

@@ -20,6 +20,8 @@
 //!   The other calls look at one machine at most, with its ins, outs and ports.
 //!
 //! The flow of values is part of the type of a network ([`Streams`]). No code reads it.
+//!
+//! `markings` has what steps do without values: markings, counts, and a measure that each step lowers.
 #![tactic(auto)]
 
 mod below;
@@ -27,6 +29,7 @@ mod event;
 mod judge;
 mod laws;
 mod located;
+mod markings;
 mod net;
 mod parts;
 mod queue;
@@ -38,16 +41,13 @@ mod waits;
 pub use event::{Event, StepRefusal};
 pub use gg_flat::Streams;
 pub use laws::{counted_once, goes_on, goes_once, refused_once, trays_tell};
-pub use net::Net;
-pub use parts::Parts;
-pub use queue::Queue;
-pub use shape::{ServedPort, Shape, Station, Wire};
-pub use waits::{first_missing, first_unfired, first_unlatched};
-
-mod markings;
-
 pub use markings::{
     counts_by_marking, each_has_layout, ends_so, goes_by_marking, keeps_allowed, leads_up,
     one_marking_by_counts, opens_allowed, opens_with_marking, puts_by_step, reached_by_counts,
     replays_while_left, steps_by_marking, steps_keep,
 };
+pub use net::Net;
+pub use parts::Parts;
+pub use queue::Queue;
+pub use shape::{ServedPort, Shape, Station, Wire};
+pub use waits::{first_missing, first_unfired, first_unlatched};

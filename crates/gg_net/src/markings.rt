@@ -8,7 +8,7 @@
 //! taken, for each machine the cycles finished and the ports served (`specs/Counts`). A network begins with any cycle,
 //! and a channel may open with a token.
 //!
-//! The crate has laws alone: its functions compute nothing. Each wired network has a layout ([`each_has_layout`]). For a
+//! Its functions are laws: they compute nothing. Each wired network has a layout ([`each_has_layout`]). For a
 //! network that has a layout (`specs/Fits`) and the invariant `Kept` of gg_net, it promises:
 //!
 //! - an event may be done exactly if the marking doesn't refuse it, every other event is refused for the marking's

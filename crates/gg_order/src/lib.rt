@@ -10,6 +10,9 @@
 //! - a `Design` is a well-formed flat circuit, with a tree of instances and an order of it.
 //!
 //! The time that `order` takes is linear in the numbers of signals and nodes.
+//!
+//! `runs` has the states, the settled cycles and the runs of flat circuits, `needs` the in-signals that each out-signal
+//! depends on.
 #![tactic(auto)]
 
 mod design;
@@ -17,21 +20,17 @@ mod fault;
 mod graph;
 mod laws;
 mod loops;
+mod needs;
 mod ordering;
+mod runs;
 
 pub use design::Design;
 pub use fault::OrderFault;
 pub use laws::orders_are_found;
+pub use needs::needs_of;
 pub use ordering::{Order, order};
-
-mod runs;
-
 pub use runs::{
     Bank, State, all_served, depends_on_reached, driver_value, no_loop, one_served, room_of,
     run_once, runs_along, runs_on, runs_split, scratch_of, settled_once, settles_along,
     signal_zeros, states_typed, ticks, values_agree, zeros,
 };
-
-mod needs;
-
-pub use needs::needs_of;

@@ -1,7 +1,7 @@
 //! Needs: the in-signals that each out-signal of a piece depends on in a cycle.
 //!
 //! An out-signal needs an in-signal if a path of reads leads from the out-signal to the in-signal (`AreNeeds`, in
-//! specs/Needs). The crate promises:
+//! specs/Needs). This module promises:
 //!
 //! - `needs_of` gives, for each out-signal in port order, the places of exactly the in-signals that it needs,
 //!   ascending.

@@ -15,12 +15,12 @@ use Rattle.gg_flat_tree.specs.Clocked.{clock_at}
 use Rattle.gg_flat_tree.specs.Scoped.{reader_fields, writer_fields}
 use Rattle.gg_part.specs.Numbers.{ArePlaces}
 use Rattle.gg_part.specs.Local.{own_by}
-use Rattle.gg_part.specs.Part.{IsFrom, in_whole, renamed_line, renamed_register, renamed_reader, renamed_writer, NamesBelow, RegisterBelow, ReadsAmong}
+use Rattle.gg_part.specs.Part.{IsFrom, in_whole, NamesBelow, RegisterBelow, ReadsAmong}
 use Rattle.gg_flat.specs.Memory.{WritesAmong}
 use Rattle.gg_flat.specs.Named.{NamesOnly, RegisterNamesOnly}
-use Rattle.gg_flat.specs.Renaming as renaming
 use Rattle.gg_flat.proofs.RenamedLineLaws.{line-agree, line-same, line-twice, only-there}
 use Rattle.gg_flat.proofs.RenamedLaws.{register-agree, register-only, register-same, register-twice, reader-agree, writer-agree}
+use Rattle.gg_flat.specs.Renaming.{Renaming, one_by_one, renamed_driver, renamed_line, renamed_reader, renamed_register, renamed_writer, same_numbers}
 
 -- what leads back from each of these numbers to a place where it stands
 pub record LeadsBack (globals : List ℕ) (back : ℕ → ℕ) : Type 0 where
@@ -39,44 +39,44 @@ table-back globals places are =
     at s among = get_or_default globals among.0 0 s among.1 ∙ among.2
 
 module _ (globals : List ℕ) (back : ℕ → ℕ) (leads_back : LeadsBack globals back) where
-  pub line-back : (line : List Node) → NamesOnly (Contains globals) line → renamed_line globals (renaming.renamed_line back line) ≡ line
+  pub line-back : (line : List Node) → NamesOnly (Contains globals) line → renamed_line (value_at globals) (renamed_line back line) ≡ line
   line-back line among =
       line-twice back (value_at globals) line
       ∙ line-agree (λ s. value_at globals (back s)) (λ s. s) line (λ s named. leads_back.found s (among s named))
       ∙ line-same line
 
-  pub line-below : (line : List Node) → NamesOnly (Contains globals) line → NamesBelow (length globals) (renaming.renamed_line back line)
+  pub line-below : (line : List Node) → NamesOnly (Contains globals) line → NamesBelow (length globals) (renamed_line back line)
   line-below line among = only-there back (λ s. s < length globals) line (λ s named. leads_back.within s (among s named))
 
-  pub register-back : (clocks : List (Option ℕ)) (clock : Option ℕ) (register : Register) → RegisterNamesOnly (Contains globals) register → clock_at clocks clock ≡ register.clock → renamed_register globals clocks (renaming.renamed_register (own_by back clock) register) ≡ register
+  pub register-back : (clocks : List (Option ℕ)) (clock : Option ℕ) (register : Register) → RegisterNamesOnly (Contains globals) register → clock_at clocks clock ≡ register.clock → renamed_register (in_whole globals clocks) (renamed_register (own_by back clock) register) ≡ register
   register-back clocks clock register among leads =
       register-twice (own_by back clock) (in_whole globals clocks) register
-      ∙ register-agree (renaming.one_by_one (own_by back clock) (in_whole globals clocks)) renaming.same_numbers register (λ s named. leads_back.found s (among s named)) leads
+      ∙ register-agree (one_by_one (own_by back clock) (in_whole globals clocks)) same_numbers register (λ s named. leads_back.found s (among s named)) leads
       ∙ register-same register
 
-  pub register-below : (clock : Option ℕ) (register : Register) → RegisterNamesOnly (Contains globals) register → RegisterBelow (length globals) (renaming.renamed_register (own_by back clock) register)
+  pub register-below : (clock : Option ℕ) (register : Register) → RegisterNamesOnly (Contains globals) register → RegisterBelow (length globals) (renamed_register (own_by back clock) register)
   register-below clock register among = register-only (own_by back clock) (λ s. s < length globals) register (λ s named. leads_back.within s (among s named))
 
-  pub reader-back : (clocks : List (Option ℕ)) (clock : Option ℕ) (reader : Reader) → All (Contains globals) (reader_fields reader) → clock_at clocks clock ≡ reader.clock → renamed_reader globals clocks (renaming.renamed_reader (own_by back clock) reader) ≡ reader
+  pub reader-back : (clocks : List (Option ℕ)) (clock : Option ℕ) (reader : Reader) → All (Contains globals) (reader_fields reader) → clock_at clocks clock ≡ reader.clock → renamed_reader (in_whole globals clocks) (renamed_reader (own_by back clock) reader) ≡ reader
   reader-back clocks clock reader among leads =
-      reader-agree (renaming.one_by_one (own_by back clock) (in_whole globals clocks)) renaming.same_numbers reader (leads_back.found reader.addr (among 0 0 (omega arith)), leads_back.found reader.en (among 1 0 (omega arith)), leads_back.found reader.word (among 2 0 (omega arith))) leads
+      reader-agree (one_by_one (own_by back clock) (in_whole globals clocks)) same_numbers reader (leads_back.found reader.addr (among 0 0 (omega arith)), leads_back.found reader.en (among 1 0 (omega arith)), leads_back.found reader.word (among 2 0 (omega arith))) leads
 
-  pub reader-below : (clock : Option ℕ) (reader : Reader) → All (Contains globals) (reader_fields reader) → ReadsAmong (length globals) (renaming.renamed_reader (own_by back clock) reader)
+  pub reader-below : (clock : Option ℕ) (reader : Reader) → All (Contains globals) (reader_fields reader) → ReadsAmong (length globals) (renamed_reader (own_by back clock) reader)
   reader-below clock reader among = (leads_back.within reader.addr (among 0 0 (omega arith)), leads_back.within reader.en (among 1 0 (omega arith)), leads_back.within reader.word (among 2 0 (omega arith)))
 
-  pub writer-back : (clocks : List (Option ℕ)) (clock : Option ℕ) (writer : Writer) → All (Contains globals) (writer_fields writer) → clock_at clocks clock ≡ writer.clock → renamed_writer globals clocks (renaming.renamed_writer (own_by back clock) writer) ≡ writer
+  pub writer-back : (clocks : List (Option ℕ)) (clock : Option ℕ) (writer : Writer) → All (Contains globals) (writer_fields writer) → clock_at clocks clock ≡ writer.clock → renamed_writer (in_whole globals clocks) (renamed_writer (own_by back clock) writer) ≡ writer
   writer-back clocks clock writer among leads =
-      writer-agree (renaming.one_by_one (own_by back clock) (in_whole globals clocks)) renaming.same_numbers writer (leads_back.found writer.addr (among 0 0 (omega arith)), leads_back.found writer.en (among 1 0 (omega arith)), leads_back.found writer.word (among 2 0 (omega arith)), leads_back.found writer.mask (among 3 0 (omega arith))) leads
+      writer-agree (one_by_one (own_by back clock) (in_whole globals clocks)) same_numbers writer (leads_back.found writer.addr (among 0 0 (omega arith)), leads_back.found writer.en (among 1 0 (omega arith)), leads_back.found writer.word (among 2 0 (omega arith)), leads_back.found writer.mask (among 3 0 (omega arith))) leads
 
-  pub writer-below : (clock : Option ℕ) (writer : Writer) → All (Contains globals) (writer_fields writer) → WritesAmong (length globals) (renaming.renamed_writer (own_by back clock) writer)
+  pub writer-below : (clock : Option ℕ) (writer : Writer) → All (Contains globals) (writer_fields writer) → WritesAmong (length globals) (renamed_writer (own_by back clock) writer)
   writer-below clock writer among = (leads_back.within writer.addr (among 0 0 (omega arith)), leads_back.within writer.en (among 1 0 (omega arith)), leads_back.within writer.word (among 2 0 (omega arith)), leads_back.within writer.mask (among 3 0 (omega arith)))
 
 -- the driver that a signal of the part gets by the tables comes from the whole
 module _ (globals held memories : List ℕ) (signals_back registers_back memories_back : ℕ → ℕ) (signals_lead : LeadsBack globals signals_back) (registers_lead : LeadsBack held registers_back) (memories_lead : LeadsBack memories memories_back) (ins : List ℕ) (s : ℕ) (clock : Option ℕ) where
-  abbrev by_tables : renaming.Renaming
+  abbrev by_tables : Renaming
   by_tables = record { signals = signals_back; registers = registers_back; memories = memories_back; clocks = λ c. clock }
 
-  pub driver-from : (driver : Driver) → ((place : ℕ) → driver ≢ Input place) → ((t : ℕ) → NamesSignal driver t → Contains globals t) → ((r : ℕ) → driver ≡ Held r → Contains held r) → ((m : ℕ) → NamesMemory driver m → Contains memories m) → IsFrom ins globals held memories s driver (renaming.renamed_driver by_tables driver)
+  pub driver-from : (driver : Driver) → ((place : ℕ) → driver ≢ Input place) → ((t : ℕ) → NamesSignal driver t → Contains globals t) → ((r : ℕ) → driver ≡ Held r → Contains held r) → ((m : ℕ) → NamesMemory driver m → Contains memories m) → IsFrom ins globals held memories s driver (renamed_driver by_tables driver)
   driver-from (Input place) inside signals registers memories = absurd (inside place refl)
   driver-from (Held r) inside signals registers memories = let c = registers r refl in (registers_lead.within r c, ap Held (sym (registers_lead.found r c)))
   driver-from (MemoryWord m r addr en) inside signals registers memories =

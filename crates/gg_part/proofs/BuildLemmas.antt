@@ -13,8 +13,9 @@ use Rattle.gg_flat.specs.WellFormed.{IsClock, IsClockedMemory}
 use Rattle.gg_flat.specs.declared.piece.Register.{Register}
 use Rattle.gg_flat.specs.declared.memory.Memory.{Memory}
 use Rattle.gg_flat.proofs.ListLemmas.{once-apart}
-use Rattle.gg_part.specs.Part.{renamed_register, renamed_memory, RegisterBelow, MemoryBelow}
+use Rattle.gg_part.specs.Part.{RegisterBelow, MemoryBelow, in_whole}
 use Rattle.gg_part.specs.Building.{IsDriven, IsAdded, AreSignals, AreRegisters, AreMemories}
+use Rattle.gg_flat.specs.Renaming.{renamed_memory, renamed_register}
 
 -- ---- one more of a list
 
@@ -139,20 +140,20 @@ module _ (first old new : FlatCircuit) where
 
 -- ---- one more register or memory
 
-pub AreRegisters-more : (whole : FlatCircuit) (globals held : List ℕ) (clocks : List (Option ℕ)) (k : ℕ) (old new : List Register) (own item : Register) → AreRegisters whole globals held clocks k old → new ≡ old ++ own ∷ [] → renamed_register globals clocks own ≡ item → RegisterBelow (length globals) own → IsClock (length clocks) own.clock → ((other : Register) → get_or whole.registers (value_at held k) other ≡ item) → AreRegisters whole globals held clocks (k + 1) new
+pub AreRegisters-more : (whole : FlatCircuit) (globals held : List ℕ) (clocks : List (Option ℕ)) (k : ℕ) (old new : List Register) (own item : Register) → AreRegisters whole globals held clocks k old → new ≡ old ++ own ∷ [] → renamed_register (in_whole globals clocks) own ≡ item → RegisterBelow (length globals) own → IsClock (length clocks) own.clock → ((other : Register) → get_or whole.registers (value_at held k) other ≡ item) → AreRegisters whole globals held clocks (k + 1) new
 AreRegisters-more whole globals held clocks k old new own item before is here below clocked read =
     record {
       counted = ap length is ∙ length_push old own ∙ ap (λ n. n + 1) before.counted;
-      each = each-more (renamed_register globals clocks) whole.registers old new held k own item before.counted is here read before.each;
+      each = each-more (renamed_register (in_whole globals clocks)) whole.registers old new held k own item before.counted is here read before.each;
       below = all-more (λ register. RegisterBelow (length globals) register) old new k own before.counted is below before.below;
       clocked = all-more (λ register. IsClock (length clocks) register.clock) old new k own before.counted is clocked before.clocked;
     }
 
-pub AreMemories-more : (whole : FlatCircuit) (globals numbers : List ℕ) (clocks : List (Option ℕ)) (k : ℕ) (old new : List Memory) (own item : Memory) → AreMemories whole globals numbers clocks k old → new ≡ old ++ own ∷ [] → renamed_memory globals clocks own ≡ item → MemoryBelow (length globals) own → IsClockedMemory (length clocks) own → ((other : Memory) → get_or whole.memories (value_at numbers k) other ≡ item) → AreMemories whole globals numbers clocks (k + 1) new
+pub AreMemories-more : (whole : FlatCircuit) (globals numbers : List ℕ) (clocks : List (Option ℕ)) (k : ℕ) (old new : List Memory) (own item : Memory) → AreMemories whole globals numbers clocks k old → new ≡ old ++ own ∷ [] → renamed_memory (in_whole globals clocks) own ≡ item → MemoryBelow (length globals) own → IsClockedMemory (length clocks) own → ((other : Memory) → get_or whole.memories (value_at numbers k) other ≡ item) → AreMemories whole globals numbers clocks (k + 1) new
 AreMemories-more whole globals numbers clocks k old new own item before is here below clocked read =
     record {
       counted = ap length is ∙ length_push old own ∙ ap (λ n. n + 1) before.counted;
-      each = each-more (renamed_memory globals clocks) whole.memories old new numbers k own item before.counted is here read before.each;
+      each = each-more (renamed_memory (in_whole globals clocks)) whole.memories old new numbers k own item before.counted is here read before.each;
       below = all-more (λ memory. MemoryBelow (length globals) memory) old new k own before.counted is below before.below;
       clocked = all-more (λ memory. IsClockedMemory (length clocks) memory) old new k own before.counted is clocked before.clocked;
     }

@@ -16,10 +16,11 @@ use Rattle.gg_flat.specs.Circuit.{FlatCircuit, signal_shapes, driver_at, readers
 use Rattle.gg_flat_tree.specs.Tree.{path_at}
 use Rattle.gg_flat.specs.WellFormed.{IsDataOf, MayDrive, IsRegister, IsMemory, IsClock, IsClockedMemory, IsWellFormed, reader_driver}
 use Rattle.gg_flat.proofs.ListLemmas.{some-item, once-apart}
-use Rattle.gg_part.specs.Part.{IsPart, IsFrom, in_whole, renamed_line, renamed_register, renamed_reader, renamed_memory, NamesBelow, RegisterBelow, MemoryBelow, ReadsAmong}
+use Rattle.gg_part.specs.Part.{IsPart, IsFrom, in_whole, NamesBelow, RegisterBelow, MemoryBelow, ReadsAmong}
 use Rattle.gg_flat.proofs.RenamedLineLaws.{IsTypedBack, source-back}
 use Rattle.gg_flat.proofs.RenamedLaws.{register-back, memory-back, memory-weaken}
 use Rattle.gg_part.proofs.RunLemmas.{shape-part, length-shapes}
+use Rattle.gg_flat.specs.Renaming.{renamed_line, renamed_memory, renamed_reader, renamed_register}
 
 module _ (whole part : FlatCircuit) (globals held memories : List ℕ) (clocks : List (Option ℕ)) (is : IsPart whole part globals held memories clocks) where
   type-part : (s : ℕ) (to : Shape) → s < length globals → HasType (signal_shapes whole) (value_at globals s) to → HasType (signal_shapes part) s to
@@ -29,28 +30,28 @@ module _ (whole part : FlatCircuit) (globals held memories : List ℕ) (clocks :
   typed-back : (s : ℕ) → s < length globals → IsTypedBack (value_at globals) (HasType (signal_shapes part)) (HasType (signal_shapes whole)) s
   typed-back s lt to typed = type-part s to lt typed
 
-  source-part : (sink : Shape) (line : List Node) → NamesBelow (length globals) line → IsSource (HasType (signal_shapes whole)) sink (renamed_line globals line) → IsSource (HasType (signal_shapes part)) sink line
+  source-part : (sink : Shape) (line : List Node) → NamesBelow (length globals) line → IsSource (HasType (signal_shapes whole)) sink (renamed_line (value_at globals) line) → IsSource (HasType (signal_shapes part)) sink line
   source-part sink line below source =
       source-back (value_at globals) (HasType (signal_shapes part)) (HasType (signal_shapes whole)) sink line (λ s named. typed-back s (below s named)) source
 
-  register-part : (register : Register) → RegisterBelow (length globals) register → IsRegister (HasType (signal_shapes whole)) (renamed_register globals clocks register) → IsRegister (HasType (signal_shapes part)) register
+  register-part : (register : Register) → RegisterBelow (length globals) register → IsRegister (HasType (signal_shapes whole)) (renamed_register (in_whole globals clocks) register) → IsRegister (HasType (signal_shapes part)) register
   register-part register below typed =
       register-back (in_whole globals clocks) (HasType (signal_shapes part)) (HasType (signal_shapes whole)) register (λ s named. typed-back s (below s named)) typed
 
-  memory-part : (memory : Memory) → MemoryBelow (length globals) memory → IsMemory (HasType (signal_shapes whole)) (renamed_memory globals clocks memory) → IsMemory (HasType (signal_shapes part)) memory
+  memory-part : (memory : Memory) → MemoryBelow (length globals) memory → IsMemory (HasType (signal_shapes whole)) (renamed_memory (in_whole globals clocks) memory) → IsMemory (HasType (signal_shapes part)) memory
   memory-part memory below typed =
       memory-back (in_whole globals clocks) (HasType (signal_shapes part)) (HasType (signal_shapes whole)) memory
       (memory-weaken (λ s. s < length globals) (IsTypedBack (value_at globals) (HasType (signal_shapes part)) (HasType (signal_shapes whole))) memory typed-back below) typed
 
-  readers-part : (m : ℕ) → m < length memories → readers_at whole (value_at memories m) ≡ map (λ reader. renamed_reader globals clocks reader) (readers_at part m)
+  readers-part : (m : ℕ) → m < length memories → readers_at whole (value_at memories m) ≡ map (λ reader. renamed_reader (in_whole globals clocks) reader) (readers_at part m)
   readers-part m lt =
       let within : m < length part.memories = omega (arith, lt, is.memory_count) in
       let some = some-item part.memories m within in
       let local = get_or part.memories m some in
       let at = is.memory_from m lt in
-      get_or-map (λ (k : Memory). k.readers) whole.memories (value_at memories m) (renamed_memory globals clocks local) [] at.within
-      ∙ ap (λ (k : Memory). k.readers) (at.is some (renamed_memory globals clocks local))
-      ∙ ap (map (λ reader. renamed_reader globals clocks reader)) (sym (get_or-map (λ (k : Memory). k.readers) part.memories m some [] within))
+      get_or-map (λ (k : Memory). k.readers) whole.memories (value_at memories m) (renamed_memory (in_whole globals clocks) local) [] at.within
+      ∙ ap (λ (k : Memory). k.readers) (at.is some (renamed_memory (in_whole globals clocks) local))
+      ∙ ap (map (λ reader. renamed_reader (in_whole globals clocks) reader)) (sym (get_or-map (λ (k : Memory). k.readers) part.memories m some [] within))
 
   latency-part : (m : ℕ) → m < length memories → latency_at whole (value_at memories m) ≡ latency_at part m
   latency-part m lt =
@@ -58,8 +59,8 @@ module _ (whole part : FlatCircuit) (globals held memories : List ℕ) (clocks :
       let some = some-item part.memories m within in
       let local = get_or part.memories m some in
       let at = is.memory_from m lt in
-      get_or-map (λ (k : Memory). k.latency) whole.memories (value_at memories m) (renamed_memory globals clocks local) Zero at.within
-      ∙ ap (λ (k : Memory). k.latency) (at.is some (renamed_memory globals clocks local))
+      get_or-map (λ (k : Memory). k.latency) whole.memories (value_at memories m) (renamed_memory (in_whole globals clocks) local) Zero at.within
+      ∙ ap (λ (k : Memory). k.latency) (at.is some (renamed_memory (in_whole globals clocks) local))
       ∙ sym (get_or-map (λ (k : Memory). k.latency) part.memories m some Zero within)
 
   reader-among : (m r : ℕ) → m < length memories → r < length (readers_at part m) → ReadsAmong (length globals) (reader_at (readers_at part m) r)
@@ -70,13 +71,13 @@ module _ (whole part : FlatCircuit) (globals held memories : List ℕ) (clocks :
       subst (λ (l : List Reader). ReadsAmong (length globals) (reader_at l r)) (sym same) (((is.memory_from m lt).below some).readers r (record { addr = 0; en = 0; word = 0; clock = None }) (subst (λ (l : List Reader). r < length l) same inside))
 
   -- reader r of memory m, in the whole's numbers
-  reader-renamed : (m r : ℕ) → m < length memories → r < length (readers_at part m) → reader_at (readers_at whole (value_at memories m)) r ≡ renamed_reader globals clocks (reader_at (readers_at part m) r)
+  reader-renamed : (m r : ℕ) → m < length memories → r < length (readers_at part m) → reader_at (readers_at whole (value_at memories m)) r ≡ renamed_reader (in_whole globals clocks) (reader_at (readers_at part m) r)
   reader-renamed m r lt inside =
-      ap (λ l. reader_at l r) (readers-part m lt) ∙ get_or-map (λ reader. renamed_reader globals clocks reader) (readers_at part m) r (record { addr = 0; en = 0; word = 0; clock = None }) (record { addr = 0; en = 0; word = 0; clock = None }) inside
+      ap (λ l. reader_at l r) (readers-part m lt) ∙ get_or-map (λ reader. renamed_reader (in_whole globals clocks) reader) (readers_at part m) r (record { addr = 0; en = 0; word = 0; clock = None }) (record { addr = 0; en = 0; word = 0; clock = None }) inside
 
   of-part : (m r s : ℕ) → m < length memories → s < length globals → IsDataOf whole (value_at memories m) r (value_at globals s) → IsDataOf part m r s
   of-part m r s lt known of =
-      let inside : r < length (readers_at part m) = omega (arith, of.0, ap length (readers-part m lt), length-map (readers_at part m) (λ reader. renamed_reader globals clocks reader)) in
+      let inside : r < length (readers_at part m) = omega (arith, of.0, ap length (readers-part m lt), length-map (readers_at part m) (λ reader. renamed_reader (in_whole globals clocks) reader)) in
       let same : value_at globals (reader_at (readers_at part m) r).word ≡ value_at globals s = ap (λ (k : Reader). k.word) (sym (reader-renamed m r lt inside)) ∙ of.1 in
       (inside, once-apart globals 0 is.once (reader_at (readers_at part m) r).word s (reader-among m r lt inside).2 known same)
 
@@ -92,8 +93,8 @@ module _ (whole part : FlatCircuit) (globals held memories : List ℕ) (clocks :
       let at = is.register_from r from.0 in (
         within,
         get_or-map (λ (x : Register). shape x.ty) part.registers r some (uint 0) within
-            ∙ ap (λ (x : Register). shape x.ty) (sym (at.is some (renamed_register globals clocks local)))
-            ∙ sym (get_or-map (λ (x : Register). shape x.ty) whole.registers (value_at held r) (renamed_register globals clocks local) (uint 0) at.within)
+            ∙ ap (λ (x : Register). shape x.ty) (sym (at.is some (renamed_register (in_whole globals clocks) local)))
+            ∙ sym (get_or-map (λ (x : Register). shape x.ty) whole.registers (value_at held r) (renamed_register (in_whole globals clocks) local) (uint 0) at.within)
             ∙ old.1
             ∙ sym (shape-part whole part globals held memories clocks is s known),
       )
@@ -104,7 +105,7 @@ module _ (whole part : FlatCircuit) (globals held memories : List ℕ) (clocks :
       subst (λ sink. IsSource (HasType (signal_shapes part)) sink line) (sym (shape-part whole part globals held memories clocks is s known)) (source-part (shape_at (signal_shapes whole) (value_at globals s)) line from.0 old)
 
   -- the driver of a reader's data, in the part
-  driven-part : (m r s : ℕ) (latency : Latency) (reader : Reader) (inner : Driver) → m < length memories → ReadsAmong (length globals) reader → ((place : ℕ) → inner ≢ Input place) → IsFrom part.ins globals held memories s (reader_driver latency (value_at memories m) r (renamed_reader globals clocks reader)) inner → inner ≡ reader_driver latency m r reader
+  driven-part : (m r s : ℕ) (latency : Latency) (reader : Reader) (inner : Driver) → m < length memories → ReadsAmong (length globals) reader → ((place : ℕ) → inner ≢ Input place) → IsFrom part.ins globals held memories s (reader_driver latency (value_at memories m) r (renamed_reader (in_whole globals clocks) reader)) inner → inner ≡ reader_driver latency m r reader
   driven-part m r s latency reader (Input place) lt among given from = absurd (given place refl)
   driven-part m r s Zero reader (Held k) lt among given from = absurd (held≢word from.1)
     where
@@ -161,7 +162,7 @@ IsWellFormed-part whole part globals held memories clocks formed is =
           let known : r < length held = omega (arith, lt, is.register_count) in
           let at = is.register_from r known in
           let local = get_or part.registers r d in
-          let old = subst (IsRegister (HasType (signal_shapes whole))) (at.is d (renamed_register globals clocks local)) (formed.registers (value_at held r) (renamed_register globals clocks local) at.within) in
+          let old = subst (IsRegister (HasType (signal_shapes whole))) (at.is d (renamed_register (in_whole globals clocks) local)) (formed.registers (value_at held r) (renamed_register (in_whole globals clocks) local) at.within) in
           register-part whole part globals held memories clocks is local (at.below d) old;
       register_clocks = λ r d lt.
           let known : r < length held = omega (arith, lt, is.register_count) in
@@ -173,7 +174,7 @@ IsWellFormed-part whole part globals held memories clocks formed is =
           let known : m < length memories = omega (arith, lt, is.memory_count) in
           let at = is.memory_from m known in
           let local = get_or part.memories m d in
-          let old = subst (IsMemory (HasType (signal_shapes whole))) (at.is d (renamed_memory globals clocks local)) (formed.memories (value_at memories m) (renamed_memory globals clocks local) at.within) in
+          let old = subst (IsMemory (HasType (signal_shapes whole))) (at.is d (renamed_memory (in_whole globals clocks) local)) (formed.memories (value_at memories m) (renamed_memory (in_whole globals clocks) local) at.within) in
           memory-part whole part globals held memories clocks is local (at.below d) old;
       reads = λ m lt r inside.
           let known : m < length memories = omega (arith, lt, is.memory_count) in
@@ -182,8 +183,8 @@ IsWellFormed-part whole part globals held memories clocks formed is =
           let among = reader-among whole part globals held memories clocks is m r known inside in
           let renamed = reader-renamed whole part globals held memories clocks is m r known inside in
           let count : length (readers_at whole (value_at memories m)) ≡ length (readers_at part m) =
-          ap length (readers-part whole part globals held memories clocks is m known) ∙ length-map (readers_at part m) (λ reader. renamed_reader globals clocks reader) in
-          let old : driver_at whole (value_at globals reader.word) ≡ reader_driver (latency_at part m) (value_at memories m) r (renamed_reader globals clocks reader) =
+          ap length (readers-part whole part globals held memories clocks is m known) ∙ length-map (readers_at part m) (λ reader. renamed_reader (in_whole globals clocks) reader) in
+          let old : driver_at whole (value_at globals reader.word) ≡ reader_driver (latency_at part m) (value_at memories m) r (renamed_reader (in_whole globals clocks) reader) =
           ap (λ (k : Reader). driver_at whole k.word) (sym renamed)
           ∙ formed.reads (value_at memories m) at.within r (omega (arith, inside, count))
           ∙ ap₂ (λ latency reader. reader_driver latency (value_at memories m) r reader) (latency-part whole part globals held memories clocks is m known) renamed in

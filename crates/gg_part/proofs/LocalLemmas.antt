@@ -7,13 +7,13 @@ use Rattle.gg_flat.specs.declared.memory.Reader.{Reader}
 use Rattle.gg_flat.specs.declared.memory.Writer.{Writer}
 use Rattle.gg_flat.specs.Memory.{WritesAmong}
 use Rattle.gg_flat.specs.WellFormed.{IsClock, IsClockedMemory}
-use Rattle.gg_flat.specs.Renaming.{renamed_reader as reader_by, renamed_writer as writer_by}
+use Rattle.gg_flat.specs.Renaming.{renamed_reader as reader_by, renamed_writer as writer_by, renamed_memory, renamed_reader, renamed_writer}
 use Rattle.gg_flat.proofs.ListLemmas.{some-item}
 use Rattle.gg_flat_tree.specs.Scoped.{reader_fields, writer_fields}
 use Rattle.gg_part.specs.Clocking.{LeadsTo, PortsFollow, clocks_of_ports}
 use Rattle.gg_part.specs.Local.{own_by, own_memory}
+use Rattle.gg_part.specs.Part.{ReadsAmong, MemoryBelow, in_whole}
 use Rattle.gg_bits.specs.Lists.{by_number}
-use Rattle.gg_part.specs.Part.{renamed_reader, renamed_writer, renamed_memory, ReadsAmong, MemoryBelow}
 use Rattle.gg_part.proofs.BackLemmas.{LeadsBack, reader-back, reader-below, writer-back, writer-below}
 use Rattle.gg_part.proofs.ClockLemmas.{port-count, port-reader, port-writer, ports-follow}
 
@@ -72,13 +72,13 @@ module _ (globals : List ℕ) (back : ℕ → ℕ) (leads : LeadsBack globals ba
       subst (λ clock. LeadsTo clocks clock (get_or ports (length memory.readers + p) None)) (port-writer memory p any lt)
       (led (length memory.readers + p) (omega (arith, lt, port-count memory)))
 
-  pub memory-renamed : renamed_memory globals clocks (own_memory back ports memory) ≡ memory
+  pub memory-renamed : renamed_memory (in_whole globals clocks) (own_memory back ports memory) ≡ memory
   memory-renamed =
       let make : List Reader → List Writer → Memory = λ readers writers. record { word = memory.word; depth = memory.depth; latency = memory.latency; readers = readers; writers = writers } in
       ap₂ make
-      (back-by (λ p reader. reader_by (own_by back (get_or ports p None)) reader) (λ reader. renamed_reader globals clocks reader) 0 memory.readers
+      (back-by (λ p reader. reader_by (own_by back (get_or ports p None)) reader) (λ reader. renamed_reader (in_whole globals clocks) reader) 0 memory.readers
       (λ p any lt. reader-back globals back leads clocks (get_or ports (0 + p) None) (get_or memory.readers p any) (reads p any lt) (of-reader p any lt).leads))
-      (back-by (λ p writer. writer_by (own_by back (get_or ports p None)) writer) (λ writer. renamed_writer globals clocks writer) (length memory.readers) memory.writers
+      (back-by (λ p writer. writer_by (own_by back (get_or ports p None)) writer) (λ writer. renamed_writer (in_whole globals clocks) writer) (length memory.readers) memory.writers
       (λ p any lt. writer-back globals back leads clocks (get_or ports (length memory.readers + p) None) (get_or memory.writers p any) (writes p any lt) (of-writer p any lt).leads))
 
   pub memory-below : MemoryBelow (length globals) (own_memory back ports memory)

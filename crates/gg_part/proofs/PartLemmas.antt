@@ -12,11 +12,12 @@ use Rattle.gg_flat.specs.Circuit.{FlatCircuit, signal_shapes, driver_at, readers
 use Rattle.gg_flat_tree.specs.Tree.{path_at}
 use Rattle.gg_flat.specs.WellFormed.{IsWellFormed}
 use Rattle.gg_flat.proofs.ListLemmas.{some-item, once-apart}
-use Rattle.gg_part.specs.Part.{IsPart, IsFrom, renamed_reader, renamed_memory}
+use Rattle.gg_part.specs.Part.{IsPart, IsFrom, in_whole}
 use Rattle.gg_part.specs.Choice.{IsChoice}
 use Rattle.gg_part.specs.Building.{AreHeld, AreSignals, AreRegisters, AreMemories}
 use Rattle.gg_part.specs.Clocking.{AreTimed}
 use Rattle.gg_part.proofs.FrameLemmas.{held-within}
+use Rattle.gg_flat.specs.Renaming.{renamed_memory, renamed_reader}
 
 -- a choice is one without its out-signals too, and with equal lists in place of its own
 pub IsChoice-frame : (whole : FlatCircuit) (globals ins outs memories own_globals own_ins own_memories : List ℕ) → own_globals ≡ globals → own_ins ≡ ins → own_memories ≡ memories → IsChoice whole globals ins outs memories → IsChoice whole own_globals own_ins [] own_memories
@@ -71,14 +72,14 @@ module _ (whole piece : FlatCircuit) (globals ins held memories : List ℕ) (fol
       let says = input-says s input.0 known input.1 in
       input.1 ∙ ap Input (once-apart ins 0 chosen.ins_once input.0 place says.0 inside (says.1 ∙ ins-at place lt))
 
-  readers-made : (m : ℕ) → m < length memories → readers_at whole (value_at memories m) ≡ map (λ reader. renamed_reader globals follows reader) (readers_at piece m)
+  readers-made : (m : ℕ) → m < length memories → readers_at whole (value_at memories m) ≡ map (λ reader. renamed_reader (in_whole globals follows) reader) (readers_at piece m)
   readers-made m lt =
       let within : m < length piece.memories = omega (arith, lt, banks.counted) in
       let some = some-item piece.memories m within in
       let local = get_or piece.memories m some in
-      get_or-map (λ (k : Memory). k.readers) whole.memories (value_at memories m) (renamed_memory globals follows local) [] (chosen.memory_within m 0 lt)
-      ∙ ap (λ (k : Memory). k.readers) (banks.each m some (renamed_memory globals follows local) lt)
-      ∙ ap (map (λ reader. renamed_reader globals follows reader)) (sym (get_or-map (λ (k : Memory). k.readers) piece.memories m some [] within))
+      get_or-map (λ (k : Memory). k.readers) whole.memories (value_at memories m) (renamed_memory (in_whole globals follows) local) [] (chosen.memory_within m 0 lt)
+      ∙ ap (λ (k : Memory). k.readers) (banks.each m some (renamed_memory (in_whole globals follows) local) lt)
+      ∙ ap (map (λ reader. renamed_reader (in_whole globals follows) reader)) (sym (get_or-map (λ (k : Memory). k.readers) piece.memories m some [] within))
 
   word-known : (m r : ℕ) → m < length memories → r < length (readers_at piece m) → (reader_at (readers_at piece m) r).word < length globals
   word-known m r lt inside =
@@ -92,10 +93,10 @@ module _ (whole piece : FlatCircuit) (globals ins held memories : List ℕ) (fol
   not-given m r place lt inside input =
       let word = (reader_at (readers_at piece m) r).word in
       let says = input-says word place (word-known m r lt inside) input in
-      let renamed : reader_at (readers_at whole (value_at memories m)) r ≡ renamed_reader globals follows (reader_at (readers_at piece m) r) =
-      ap (λ l. reader_at l r) (readers-made m lt) ∙ get_or-map (λ reader. renamed_reader globals follows reader) (readers_at piece m) r (record { addr = 0; en = 0; word = 0; clock = None }) (record { addr = 0; en = 0; word = 0; clock = None }) inside in
+      let renamed : reader_at (readers_at whole (value_at memories m)) r ≡ renamed_reader (in_whole globals follows) (reader_at (readers_at piece m) r) =
+      ap (λ l. reader_at l r) (readers-made m lt) ∙ get_or-map (λ reader. renamed_reader (in_whole globals follows) reader) (readers_at piece m) r (record { addr = 0; en = 0; word = 0; clock = None }) (record { addr = 0; en = 0; word = 0; clock = None }) inside in
       let listed = subst (Contains ins) (says.1 ∙ ap (λ (k : Reader). k.word) (sym renamed)) (Contains-get_or ins place 0 says.0) in
-      let known : r < length (readers_at whole (value_at memories m)) = omega (arith, inside, ap length (readers-made m lt), length-map (readers_at piece m) (λ reader. renamed_reader globals follows reader)) in
+      let known : r < length (readers_at whole (value_at memories m)) = omega (arith, inside, ap length (readers-made m lt), length-map (readers_at piece m) (λ reader. renamed_reader (in_whole globals follows) reader)) in
       chosen.answers (value_at memories m) r (Contains-get_or memories m 0 lt) known listed
 
   pub IsPart-made : IsPart whole piece globals held memories follows

@@ -12,8 +12,9 @@ use Rattle.gg_flat.specs.Clock.{Ratio, edge, edges_at, ticks}
 use Rattle.gg_flat_tree.specs.Clocked.{clock_at}
 use Rattle.gg_flat.specs.Memory.{Bank, next_bank}
 use Rattle.gg_flat.specs.State.{next_register}
-use Rattle.gg_part.specs.Part.{in_whole, renamed_line, renamed_register, renamed_memory, NamesBelow, RegisterBelow, MemoryBelow}
+use Rattle.gg_part.specs.Part.{in_whole, NamesBelow, RegisterBelow, MemoryBelow}
 use Rattle.gg_part.specs.PartRun.{part_row, part_ratios, ratio_at}
+use Rattle.gg_flat.specs.Renaming.{renamed_line, renamed_memory, renamed_register}
 use Rattle.gg_flat.proofs.RenamedLineLaws as lines
 use Rattle.gg_flat.proofs.RenamedLaws as things
 
@@ -22,17 +23,17 @@ module _ (globals row : List ℕ) where
   pub part_row-at : (s : ℕ) → s < length globals → value_at (part_row globals row) s ≡ value_at row (value_at globals s)
   part_row-at s lt = get_or-map (value_at row) globals s 0 0 lt
 
-  pub connected-renamed : (sink : Shape) (line : List Node) → NamesBelow (length globals) line → connected_value row sink (renamed_line globals line) ≡ connected_value (part_row globals row) sink line
+  pub connected-renamed : (sink : Shape) (line : List Node) → NamesBelow (length globals) line → connected_value row sink (renamed_line (value_at globals) line) ≡ connected_value (part_row globals row) sink line
   connected-renamed sink line below = lines.connected-renamed (value_at globals) row (part_row globals row) sink line (λ s named. sym (part_row-at s (below s named)))
 
 -- What goes on in a tick: the whole's clocks have these edges, the part's those, and each clock of the part has an edge where the one that it
 -- follows has one.
 module _ (globals row : List ℕ) (clocks : List (Option ℕ)) (edges mine : List Bool) (same : (clock : Option ℕ) → ticks edges (clock_at clocks clock) ≡ ticks mine clock) where
-  pub register-renamed : (register : Register) (own : ℕ) → RegisterBelow (length globals) register → next_register edges row (renamed_register globals clocks register) own ≡ next_register mine (part_row globals row) register own
+  pub register-renamed : (register : Register) (own : ℕ) → RegisterBelow (length globals) register → next_register edges row (renamed_register (in_whole globals clocks) register) own ≡ next_register mine (part_row globals row) register own
   register-renamed register own below =
       things.register-value (in_whole globals clocks) row (part_row globals row) edges mine register own (λ s named. sym (part_row-at globals row s (below s named))) (same register.clock)
 
-  pub bank-renamed : (memory : Memory) (bank : Bank) → MemoryBelow (length globals) memory → next_bank edges row (renamed_memory globals clocks memory) bank ≡ next_bank mine (part_row globals row) memory bank
+  pub bank-renamed : (memory : Memory) (bank : Bank) → MemoryBelow (length globals) memory → next_bank edges row (renamed_memory (in_whole globals clocks) memory) bank ≡ next_bank mine (part_row globals row) memory bank
   bank-renamed memory bank below =
       things.bank-value (in_whole globals clocks) row (part_row globals row) edges mine memory bank
       (things.memory-weaken (λ s. s < length globals) (lines.IsAlike (value_at globals) row (part_row globals row)) memory (λ s lt. sym (part_row-at globals row s lt)) below)

@@ -21,10 +21,11 @@ use Rattle.gg_flat.proofs.BankLemmas.{length-next_banks, next_banks-at}
 use Rattle.gg_flat.proofs.TypedLemmas.{shape_at-in_shapes}
 use Rattle.gg_flat.proofs.StateLemmas.{IsState-opening}
 use Rattle.gg_flat.proofs.ListLemmas.{some-item}
-use Rattle.gg_part.specs.Part.{IsPart, IsFrom, in_whole, renamed_register, renamed_memory}
+use Rattle.gg_part.specs.Part.{IsPart, IsFrom, in_whole}
 use Rattle.gg_part.specs.PartRun.{part_row, part_rows, part_state, part_ratios, part_start, part_columns}
 use Rattle.gg_part.proofs.RenameLemmas.{part_row-at, connected-renamed, register-renamed, bank-renamed, ticks-part}
 use Rattle.gg_flat.proofs.RenamedLaws.{opening-renamed}
+use Rattle.gg_flat.specs.Renaming.{renamed_memory, renamed_register}
 
 -- a state has as many registers and banks as the circuit
 pub record HasCounts (circuit : FlatCircuit) (state : State) : Type 0 where
@@ -115,8 +116,8 @@ module _ (whole part : FlatCircuit) (globals held memories : List ℕ) (clocks :
         next_registers-at mine (part_row globals row) part.registers own r some count within
         ∙ ap (next_register mine (part_row globals row) local) (get_or-map (value_at state.registers) held r 0 0 known)
         ∙ sym (register-renamed globals row clocks edges mine same local (value_at state.registers (value_at held r)) (at.below some))
-        ∙ ap (λ (register : Register). next_register edges row register (value_at state.registers (value_at held r))) (sym (at.is some (renamed_register globals clocks local)))
-        ∙ sym (next_registers-at edges row whole.registers state.registers (value_at held r) (renamed_register globals clocks local) has.registers at.within)
+        ∙ ap (λ (register : Register). next_register edges row register (value_at state.registers (value_at held r))) (sym (at.is some (renamed_register (in_whole globals clocks) local)))
+        ∙ sym (next_registers-at edges row whole.registers state.registers (value_at held r) (renamed_register (in_whole globals clocks) local) has.registers at.within)
         ∙ sym (get_or-map (value_at (next_registers edges row whole.registers state.registers)) held r 0 0 known))
 
     banks-part : (state : State) (row : List ℕ) → HasCounts whole state → next_banks mine (part_row globals row) part.memories (map (bank_at state.banks) memories) ≡ map (bank_at (next_banks edges row whole.memories state.banks)) memories
@@ -134,8 +135,8 @@ module _ (whole part : FlatCircuit) (globals held memories : List ℕ) (clocks :
         next_banks-at mine (part_row globals row) part.memories own m some count within
         ∙ ap (next_bank mine (part_row globals row) local) (bank-at memories state.banks m known)
         ∙ sym (bank-renamed globals row clocks edges mine same local (bank_at state.banks (value_at memories m)) (at.below some))
-        ∙ ap (λ (memory : Memory). next_bank edges row memory (bank_at state.banks (value_at memories m))) (sym (at.is some (renamed_memory globals clocks local)))
-        ∙ sym (next_banks-at edges row whole.memories state.banks (value_at memories m) (renamed_memory globals clocks local) has.banks at.within)
+        ∙ ap (λ (memory : Memory). next_bank edges row memory (bank_at state.banks (value_at memories m))) (sym (at.is some (renamed_memory (in_whole globals clocks) local)))
+        ∙ sym (next_banks-at edges row whole.memories state.banks (value_at memories m) (renamed_memory (in_whole globals clocks) local) has.banks at.within)
         ∙ sym (bank-at memories (next_banks edges row whole.memories state.banks) m known))
 
     next-part : (state : State) (row : List ℕ) → HasCounts whole state → next_state mine part (part_state held memories state) (part_row globals row) ≡ part_state held memories (next_state edges whole state row)
@@ -189,8 +190,8 @@ module _ (whole part : FlatCircuit) (globals held memories : List ℕ) (clocks :
       let local = get_or part.memories m some in
       let at = is.memory_from m known in
       bank-at memories banks m known
-      ∙ get_or-map (λ memory. opening_bank memory) whole.memories (value_at memories m) (renamed_memory globals clocks local) nothing at.within
-      ∙ ap (λ memory. opening_bank memory) (at.is some (renamed_memory globals clocks local))
+      ∙ get_or-map (λ memory. opening_bank memory) whole.memories (value_at memories m) (renamed_memory (in_whole globals clocks) local) nothing at.within
+      ∙ ap (λ memory. opening_bank memory) (at.is some (renamed_memory (in_whole globals clocks) local))
       ∙ opening-renamed (in_whole globals clocks) local
       ∙ sym (get_or-map (λ memory. opening_bank memory) part.memories m some nothing within))
 

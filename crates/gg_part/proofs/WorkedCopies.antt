@@ -18,8 +18,9 @@ use Rattle.gg_flat.specs.Circuit.{FlatCircuit, driver_at, signal_shapes}
 use Rattle.gg_flat.specs.Line.{shape_at}
 use Rattle.gg_flat_tree.specs.Scoped.{IsInputOf}
 use Rattle.gg_flat_tree.specs.Tree.{InstanceTree, instance_at, path_at, stop_at}
-use Rattle.gg_part.specs.Moved.{IsMoved, moved_driver, moved_register, moved_stop, shifted, unclocked_register}
+use Rattle.gg_part.specs.Moved.{IsMoved, moved_stop, shifted, unclocked_register}
 use Rattle.gg_part.specs.Copies.{above, Start, IsCopy}
+use Rattle.gg_flat.specs.Renaming.{numbers_by, renamed_driver, renamed_register, signals_by}
 
 -- ---- the circuit
 
@@ -110,7 +111,7 @@ paths (suc (suc zero)) lt = record { rest = codes "q"; one = refl; other = refl 
 paths (suc (suc (suc zero))) lt = record { rest = codes "stop:0"; one = refl; other = refl }
 paths (suc (suc (suc (suc s)))) lt = absurd (omega (arith, lt))
 
-drivers : (s : ℕ) → s < 4 → ¬ IsInputOf tree 1 s → driver_at circuit (shifted 0 4 s) ≡ moved_driver (shifted 0 4) (shifted 0 1) (shifted 0 0) (driver_at circuit s)
+drivers : (s : ℕ) → s < 4 → ¬ IsInputOf tree 1 s → driver_at circuit (shifted 0 4 s) ≡ renamed_driver (numbers_by (shifted 0 4) (shifted 0 1) (shifted 0 0)) (driver_at circuit s)
 drivers zero lt none = absurd (none first-input)
 drivers (suc zero) lt none = refl
 drivers (suc (suc zero)) lt none = refl
@@ -126,7 +127,7 @@ first-register (suc (suc (suc zero))) r lt none is = absurd (cc)
 first-register (suc (suc (suc (suc s)))) r lt none is = absurd (omega (arith, lt))
 
 abbrev SameRegister : ℕ → Type 0
-SameRegister r = (any : Register) → unclocked_register (slice_index_or circuit.registers (shifted 0 1 r) any) ≡ unclocked_register (moved_register (shifted 0 4) (slice_index_or circuit.registers r any))
+SameRegister r = (any : Register) → unclocked_register (slice_index_or circuit.registers (shifted 0 1 r) any) ≡ unclocked_register (renamed_register (signals_by (shifted 0 4)) (slice_index_or circuit.registers r any))
 
 abbrev SameClock : ℕ → Type 0
 SameClock r = slice_index_or tree.register_clocks (shifted 0 1 r) None ≡ slice_index_or tree.register_clocks r None

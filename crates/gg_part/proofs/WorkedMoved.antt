@@ -8,7 +8,8 @@ use Rattle.gg_flat.specs.declared.line.Op.{Op}
 use Rattle.gg_flat.specs.declared.line.Op.TheVariants.{Ref, Two}
 use Rattle.gg_flat.specs.declared.piece.Driver.{Driver}
 use Rattle.gg_flat.specs.declared.piece.Driver.TheVariants.{Input, Held, MemoryWord, Computed}
-use Rattle.gg_part.specs.Moved.{moved_driver, moved_register, shifted}
+use Rattle.gg_part.specs.Moved.{shifted}
+use Rattle.gg_flat.specs.Renaming.{numbers_by, renamed_driver, renamed_register, signals_by}
 
 abbrev one : Ty
 one = record { kind = UInt; width = 1; positive = lit≤ tt; bounded = lit≤ tt }
@@ -18,7 +19,7 @@ node op = record { ty = one; op = op }
 
 -- an instance from signal 4, register 1 and memory 0 on, and another from signal 14, register 3 and memory 2 on
 abbrev moved : Driver → Driver
-moved driver = moved_driver (shifted 4 14) (shifted 1 3) (shifted 0 2) driver
+moved driver = renamed_driver (numbers_by (shifted 4 14) (shifted 1 3) (shifted 0 2)) driver
 
 -- references move, places in the line don't
 line : moved (Computed (node (Ref 4) ∷ node (Ref 6) ∷ node (Two Add 0 1) ∷ [])) ≡ Computed (node (Ref 14) ∷ node (Ref 16) ∷ node (Two Add 0 1) ∷ [])
@@ -35,7 +36,7 @@ word = refl
 input : moved (Input 5) ≡ Input 5
 input = refl
 
-register : moved_register (shifted 4 14) (record { ty = one; reset = None; next = Some (node (Ref 5) ∷ []); clock = Some 0 }) ≡ record { ty = one; reset = None; next = Some (node (Ref 15) ∷ []); clock = Some 0 }
+register : renamed_register (signals_by (shifted 4 14)) (record { ty = one; reset = None; next = Some (node (Ref 5) ∷ []); clock = Some 0 }) ≡ record { ty = one; reset = None; next = Some (node (Ref 15) ∷ []); clock = Some 0 }
 register = refl
 
 -- the register of the first isn't that of the second

@@ -12,7 +12,8 @@ use Rattle.gg_flat.specs.Line.{shape_at, value_at}
 use Rattle.gg_flat.specs.Circuit.{FlatCircuit, signal_shapes, driver_at}
 use Rattle.gg_flat_tree.specs.Tree.{path_at}
 use Rattle.gg_flat.specs.WellFormed.{IsClock, IsClockedMemory}
-use Rattle.gg_part.specs.Part.{IsFrom, renamed_register, renamed_memory, RegisterBelow, MemoryBelow}
+use Rattle.gg_part.specs.Part.{IsFrom, RegisterBelow, MemoryBelow, in_whole}
+use Rattle.gg_flat.specs.Renaming.{renamed_memory, renamed_register}
 
 -- Signal s holds register r, and doesn't come from outside.
 pub record Holds (whole : FlatCircuit) (ins : List ℕ) (s r : ℕ) : Type 0 where
@@ -57,13 +58,13 @@ pub record AreSignals (whole : FlatCircuit) (globals ins held memories : List �
 -- These registers are the first `count` of the part.
 pub record AreRegisters (whole : FlatCircuit) (globals held : List ℕ) (clocks : List (Option ℕ)) (count : ℕ) (registers : List Register) : Type 0 where
   pub counted : length registers ≡ count
-  pub each : (r : ℕ) (any other : Register) → r < count → slice_index_or whole.registers (value_at held r) other ≡ renamed_register globals clocks (slice_index_or registers r any)
+  pub each : (r : ℕ) (any other : Register) → r < count → slice_index_or whole.registers (value_at held r) other ≡ renamed_register (in_whole globals clocks) (slice_index_or registers r any)
   pub below : (r : ℕ) (any : Register) → r < count → RegisterBelow (length globals) (slice_index_or registers r any)
   pub clocked : (r : ℕ) (any : Register) → r < count → IsClock (length clocks) (slice_index_or registers r any).clock
 
 -- These memories are the first `count` of the part.
 pub record AreMemories (whole : FlatCircuit) (globals numbers : List ℕ) (clocks : List (Option ℕ)) (count : ℕ) (memories : List Memory) : Type 0 where
   pub counted : length memories ≡ count
-  pub each : (m : ℕ) (any other : Memory) → m < count → slice_index_or whole.memories (value_at numbers m) other ≡ renamed_memory globals clocks (slice_index_or memories m any)
+  pub each : (m : ℕ) (any other : Memory) → m < count → slice_index_or whole.memories (value_at numbers m) other ≡ renamed_memory (in_whole globals clocks) (slice_index_or memories m any)
   pub below : (m : ℕ) (any : Memory) → m < count → MemoryBelow (length globals) (slice_index_or memories m any)
   pub clocked : (m : ℕ) (any : Memory) → m < count → IsClockedMemory (length clocks) (slice_index_or memories m any)

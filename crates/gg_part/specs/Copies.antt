@@ -9,7 +9,8 @@ use Rattle.gg_flat.specs.Circuit.{FlatCircuit, signal_shapes, driver_at}
 use Rattle.gg_flat.specs.Line.{shape_at}
 use Rattle.gg_flat_tree.specs.Scoped.{IsInputOf}
 use Rattle.gg_flat_tree.specs.Tree.{InstanceTree, instance_at, memory_at, path_at, stop_at, Holds as IsHeldBy}
-use Rattle.gg_part.specs.Moved.{IsMoved, moved_driver, moved_register, moved_memory, moved_port, moved_stop, shifted, unclocked_memory, unclocked_register}
+use Rattle.gg_part.specs.Moved.{IsMoved, moved_port, moved_stop, shifted, unclocked_memory, unclocked_register}
+use Rattle.gg_flat.specs.Renaming.{numbers_by, renamed_driver, renamed_memory, renamed_register, signals_by}
 
 -- the place of the instance so many levels above that at place k
 abbrev pub above : InstanceTree → ℕ → ℕ → Option ℕ
@@ -36,9 +37,9 @@ pub record IsCopy (circuit : FlatCircuit) (tree : InstanceTree) (i j : ℕ) (one
   pub path : (s : ℕ) → IsHeldBy (instance_at tree i) s → IsMoved (path_at tree.paths i) (path_at tree.paths j) (path_at circuit.paths s) (path_at circuit.paths (shifted one.signals other.signals s))
   pub shape : (s : ℕ) → IsHeldBy (instance_at tree i) s → shape_at (signal_shapes circuit) (shifted one.signals other.signals s) ≡ shape_at (signal_shapes circuit) s
   pub driver : (s : ℕ) → IsHeldBy (instance_at tree i) s → ¬ IsInputOf tree i s
-      → driver_at circuit (shifted one.signals other.signals s) ≡ moved_driver (shifted one.signals other.signals) (shifted one.registers other.registers) (shifted one.memories other.memories) (driver_at circuit s)
+      → driver_at circuit (shifted one.signals other.signals s) ≡ renamed_driver (numbers_by (shifted one.signals other.signals) (shifted one.registers other.registers) (shifted one.memories other.memories)) (driver_at circuit s)
   pub register : (s r : ℕ) (any : Register) → IsHeldBy (instance_at tree i) s → ¬ IsInputOf tree i s → driver_at circuit s ≡ Held r
-      → unclocked_register (slice_index_or circuit.registers (shifted one.registers other.registers r) any) ≡ unclocked_register (moved_register (shifted one.signals other.signals) (slice_index_or circuit.registers r any))
+      → unclocked_register (slice_index_or circuit.registers (shifted one.registers other.registers r) any) ≡ unclocked_register (renamed_register (signals_by (shifted one.signals other.signals)) (slice_index_or circuit.registers r any))
   pub register_clock : (s r : ℕ) → IsHeldBy (instance_at tree i) s → ¬ IsInputOf tree i s → driver_at circuit s ≡ Held r
       → slice_index_or tree.register_clocks (shifted one.registers other.registers r) None ≡ slice_index_or tree.register_clocks r None
   pub ports : (instance_at tree j).ports ≡ map (λ port. moved_port (shifted one.signals other.signals) port) (instance_at tree i).ports
@@ -47,7 +48,7 @@ pub record IsCopy (circuit : FlatCircuit) (tree : InstanceTree) (i j : ℕ) (one
   pub parent : (k : ℕ) → k < length tree.instances → LiesIn tree i k → k ≢ i → (instance_at tree (shifted i j k)).parent ≡ option_map (shifted i j) (instance_at tree k).parent
   pub memory_path : (m : ℕ) → m < length tree.memories → LiesIn tree i (memory_at tree m).instance → IsMoved (path_at tree.paths i) (path_at tree.paths j) (path_at tree.memory_paths m) (path_at tree.memory_paths (shifted one.memories other.memories m))
   pub memory : (m : ℕ) (any : Memory) → m < length tree.memories → LiesIn tree i (memory_at tree m).instance
-      → unclocked_memory (slice_index_or circuit.memories (shifted one.memories other.memories m) any) ≡ unclocked_memory (moved_memory (shifted one.signals other.signals) (slice_index_or circuit.memories m any))
+      → unclocked_memory (slice_index_or circuit.memories (shifted one.memories other.memories m) any) ≡ unclocked_memory (renamed_memory (signals_by (shifted one.signals other.signals)) (slice_index_or circuit.memories m any))
   pub memory_clocks : (m : ℕ) → m < length tree.memories → LiesIn tree i (memory_at tree m).instance → (memory_at tree (shifted one.memories other.memories m)).clocks ≡ (memory_at tree m).clocks
   pub own_clocks : length (instance_at tree j).clocks ≡ length (instance_at tree i).clocks
   pub clocks : (k : ℕ) → k < length tree.instances → LiesIn tree i k → k ≢ i → (instance_at tree (shifted i j k)).clocks ≡ (instance_at tree k).clocks

@@ -4,19 +4,15 @@
 -- 2009 (a synchronous design as a network of its parts).
 use Rattle.std.specs.Prelude.{◌≡◌, ◌≢◌, ℕ, ◌<◌, List, Option, length, map, slice_index_or, AllPairs}
 use Rattle.gg_flat.specs.declared.line.Node.{Node}
-use Rattle.gg_flat.specs.declared.line.Op.{Op}
 use Rattle.gg_flat.specs.declared.memory.Reader.{Reader}
-use Rattle.gg_flat.specs.declared.memory.Writer.{Writer}
 use Rattle.gg_flat.specs.declared.memory.Memory.{Memory}
 use Rattle.gg_flat.specs.declared.piece.Register.{Register}
-use Rattle.gg_flat.specs.declared.piece.Reset.{Reset}
 use Rattle.gg_flat.specs.declared.piece.Driver.{Driver}
 use Rattle.gg_flat.specs.declared.piece.Driver.TheVariants.{Input, Held, MemoryWord, ReadRegister, Computed}
 use Rattle.gg_flat.specs.Line.{shape_at, value_at}
 use Rattle.gg_flat.specs.Circuit.{FlatCircuit, signal_shapes, driver_at, readers_at, reader_at}
 use Rattle.gg_flat.specs.Named.{NamesOnly, RegisterNamesOnly, ReaderNamesOnly, MemoryNamesOnly}
-use Rattle.gg_flat.specs.Renaming.{Renaming}
-use Rattle.gg_flat.specs.Renaming as renaming
+use Rattle.gg_flat.specs.Renaming.{Renaming, renamed_line, renamed_memory, renamed_register}
 use Rattle.gg_flat_tree.specs.Clocked.{clock_at}
 use Rattle.gg_flat_tree.specs.Tree.{path_at}
 use Rattle.gg_flat.specs.WellFormed.{IsClock, IsClockedMemory}
@@ -27,33 +23,6 @@ use Rattle.gg_flat.specs.WellFormed.{IsClock, IsClockedMemory}
 -- the numbers in the whole of what the part has
 abbrev pub in_whole : (globals : List ℕ) (clocks : List (Option ℕ)) → Renaming
 in_whole globals clocks = record { signals = value_at globals; registers = λ r. r; memories = λ m. m; clocks = clock_at clocks }
-
-abbrev pub renamed_op : List ℕ → Op → Op
-renamed_op globals op = renaming.renamed_op (value_at globals) op
-
-abbrev pub renamed_node : List ℕ → Node → Node
-renamed_node globals node = renaming.renamed_node (value_at globals) node
-
-abbrev pub renamed_line : List ℕ → List Node → List Node
-renamed_line globals line = renaming.renamed_line (value_at globals) line
-
-abbrev pub renamed_next : List ℕ → Option (List Node) → Option (List Node)
-renamed_next globals next = renaming.renamed_next (value_at globals) next
-
-abbrev pub renamed_reset : List ℕ → Option Reset → Option Reset
-renamed_reset globals reset = renaming.renamed_reset (value_at globals) reset
-
-abbrev pub renamed_register : List ℕ → List (Option ℕ) → Register → Register
-renamed_register globals clocks register = renaming.renamed_register (in_whole globals clocks) register
-
-abbrev pub renamed_reader : List ℕ → List (Option ℕ) → Reader → Reader
-renamed_reader globals clocks reader = renaming.renamed_reader (in_whole globals clocks) reader
-
-abbrev pub renamed_writer : List ℕ → List (Option ℕ) → Writer → Writer
-renamed_writer globals clocks writer = renaming.renamed_writer (in_whole globals clocks) writer
-
-abbrev pub renamed_memory : List ℕ → List (Option ℕ) → Memory → Memory
-renamed_memory globals clocks memory = renaming.renamed_memory (in_whole globals clocks) memory
 
 -- ---- what the part names exists
 
@@ -84,12 +53,12 @@ IsFrom ins globals held memories s driver (Held register) = (register < length h
 IsFrom ins globals held memories s driver (MemoryWord m r addr en) =
     (m < length memories) × (addr < length globals) × (en < length globals) × (driver ≡ MemoryWord (value_at memories m) r (value_at globals addr) (value_at globals en))
 IsFrom ins globals held memories s driver (ReadRegister m r) = (m < length memories) × (driver ≡ ReadRegister (value_at memories m) r)
-IsFrom ins globals held memories s driver (Computed line) = NamesBelow (length globals) line × (driver ≡ Computed (renamed_line globals line))
+IsFrom ins globals held memories s driver (Computed line) = NamesBelow (length globals) line × (driver ≡ Computed (renamed_line (value_at globals) line))
 
 -- Register r of the part is the register of the whole circuit with that number in `held`. It follows a clock of the part, if any.
 pub record IsRegisterFrom (whole part : FlatCircuit) (globals held : List ℕ) (clocks : List (Option ℕ)) (r : ℕ) : Type 0 where
   pub within : value_at held r < length whole.registers
-  pub is : (any other : Register) → slice_index_or whole.registers (value_at held r) other ≡ renamed_register globals clocks (slice_index_or part.registers r any)
+  pub is : (any other : Register) → slice_index_or whole.registers (value_at held r) other ≡ renamed_register (in_whole globals clocks) (slice_index_or part.registers r any)
   pub below : (any : Register) → RegisterBelow (length globals) (slice_index_or part.registers r any)
   pub clocked : (any : Register) → IsClock (length clocks) (slice_index_or part.registers r any).clock
 
@@ -97,7 +66,7 @@ pub record IsRegisterFrom (whole part : FlatCircuit) (globals held : List ℕ) (
 -- clock of the part, if any, and the data of its readers isn't an in-signal.
 pub record IsMemoryFrom (whole part : FlatCircuit) (globals memories : List ℕ) (clocks : List (Option ℕ)) (m : ℕ) : Type 0 where
   pub within : value_at memories m < length whole.memories
-  pub is : (any other : Memory) → slice_index_or whole.memories (value_at memories m) other ≡ renamed_memory globals clocks (slice_index_or part.memories m any)
+  pub is : (any other : Memory) → slice_index_or whole.memories (value_at memories m) other ≡ renamed_memory (in_whole globals clocks) (slice_index_or part.memories m any)
   pub below : (any : Memory) → MemoryBelow (length globals) (slice_index_or part.memories m any)
   pub clocked : (any : Memory) → IsClockedMemory (length clocks) (slice_index_or part.memories m any)
   pub given : (r place : ℕ) → r < length (readers_at part m) → driver_at part (reader_at (readers_at part m) r).word ≢ Input place

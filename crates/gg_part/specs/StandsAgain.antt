@@ -8,17 +8,17 @@ use Rattle.gg_flat.specs.declared.piece.Register.{Register}
 use Rattle.gg_flat.specs.Circuit.{FlatCircuit, signal_shapes, driver_at}
 use Rattle.gg_flat.specs.Line.{shape_at, value_at}
 use Rattle.gg_flat_tree.specs.Tree.{path_at}
-use Rattle.gg_part.specs.Moved.{moved_driver, moved_register, moved_memory}
+use Rattle.gg_flat.specs.Renaming.{numbers_by, renamed_driver, renamed_memory, renamed_register, signals_by}
 
 -- A register, or a memory, stands again under another number.
 pub record IsRegisterAgain (whole : FlatCircuit) (signals : ℕ → ℕ) (r other : ℕ) : Type 0 where
   pub within : other < length whole.registers
-  pub is : (any : Register) → slice_index_or whole.registers other any ≡ moved_register signals (slice_index_or whole.registers r any)
+  pub is : (any : Register) → slice_index_or whole.registers other any ≡ renamed_register (signals_by signals) (slice_index_or whole.registers r any)
 
 -- the same of a memory
 pub record IsMemoryAgain (whole : FlatCircuit) (signals : ℕ → ℕ) (m other : ℕ) : Type 0 where
   pub within : other < length whole.memories
-  pub is : (any : Memory) → slice_index_or whole.memories other any ≡ moved_memory signals (slice_index_or whole.memories m any)
+  pub is : (any : Memory) → slice_index_or whole.memories other any ≡ renamed_memory (signals_by signals) (slice_index_or whole.memories m any)
 
 -- The part has these signals, registers and memories of the whole circuit. Each of them stands there again, under the
 -- number that `signals`, `registers` and `memories` give it: a signal with the same type and, unless the part gets it
@@ -27,7 +27,7 @@ pub record StandsAgain (whole part : FlatCircuit) (globals held banks : List ℕ
   pub within : (s : ℕ) → s < length globals → signals (value_at globals s) < length whole.signals
   pub once : AllPairs (λ a b. a ≢ b) (map signals globals)
   pub shapes : (s : ℕ) → s < length globals → shape_at (signal_shapes whole) (signals (value_at globals s)) ≡ shape_at (signal_shapes whole) (value_at globals s)
-  pub drivers : (s : ℕ) → s < length globals → ((place : ℕ) → driver_at part s ≢ Input place) → driver_at whole (signals (value_at globals s)) ≡ moved_driver signals registers memories (driver_at whole (value_at globals s))
+  pub drivers : (s : ℕ) → s < length globals → ((place : ℕ) → driver_at part s ≢ Input place) → driver_at whole (signals (value_at globals s)) ≡ renamed_driver (numbers_by signals registers memories) (driver_at whole (value_at globals s))
   pub register : (r : ℕ) → r < length held → IsRegisterAgain whole signals (value_at held r) (registers (value_at held r))
   pub memories_once : AllPairs (λ a b. a ≢ b) (map memories banks)
   pub memory : (m : ℕ) → m < length banks → IsMemoryAgain whole signals (value_at banks m) (memories (value_at banks m))

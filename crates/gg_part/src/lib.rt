@@ -13,8 +13,7 @@
 //! - a part of a circuit is one at each place where what it has stands again under other numbers (`part_moves`,
 //!   `StandsAgain`).
 //!
-//! What has other numbers is the same in all else (`moved_driver`, `moved_register`, `moved_memory` in `specs/Moved`). Where
-//! things stand again is said by the tree of instances: a circuit keeps to its tree (`KeepsToTree`) if the tree is one of the
+//! What has other numbers is the same in all else (gg_flat's `Renaming`). Where things stand again is said by the tree of instances: a circuit keeps to its tree (`KeepsToTree`) if the tree is one of the
 //! circuit, the circuit keeps to its scopes, and instances of one module are copies of each other (`HasCopies`).
 //!
 //! `part_of` takes time and memory for the signals, registers and memories of the whole circuit, and for those of the

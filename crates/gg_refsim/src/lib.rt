@@ -6,19 +6,15 @@
 //! state make such a cycle, since a design's circuit has an order. So n cycles from a start, whether the opening or
 //! another, are the circuit's one run from it (`run_begins`, `run_continues`).
 //!
-//! Whether a flat circuit is well formed, by the definitions of gg_flat.
-//!
-//! `is_well_formed` returns true exactly if a piece is well formed. It does not allocate.
+//! `is_well_formed` returns true exactly if a flat circuit is well formed (gg_flat's `IsWellFormed`). It doesn't allocate.
 #![tactic(auto)]
-
-mod laws;
-mod mono;
-
-pub use laws::{run_begins, run_continues};
-pub use mono::{Mono, NoMemory};
 
 mod check;
 mod check_clocks;
 mod check_memory;
+mod laws;
+mod mono;
 
 pub use check::is_well_formed;
+pub use laws::{run_begins, run_continues};
+pub use mono::{Mono, NoMemory};

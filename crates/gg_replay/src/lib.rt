@@ -12,6 +12,8 @@
 //! - [`channel_line`] returns the exact line of a channel: its name, its counts and its tokens.
 //!
 //! Any call that allocates may return `AllocError` or `ReplayFault::NoMemory`.
+//!
+//! `steps_file` reads steps files, and writes the cause for which a step wasn't done.
 #![tactic(auto)]
 
 mod fault;
@@ -19,13 +21,11 @@ mod laws;
 mod line;
 mod log;
 mod steps;
+mod steps_file;
 
 pub use fault::ReplayFault;
 pub use laws::opens_with_first_tokens;
 pub use line::channel_line;
 pub use log::Log;
 pub use steps::replay;
-
-mod steps_file;
-
 pub use steps_file::{StepNames, cause_text, read_steps, steps_are_spelt, steps_have_lines};

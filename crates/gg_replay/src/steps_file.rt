@@ -1,6 +1,6 @@
 //! Steps files, and the text of the cause for which a step wasn't done.
 //!
-//! A steps file lists the steps of a network, one on each line. The crate promises:
+//! A steps file lists the steps of a network, one on each line. This module promises:
 //!
 //! - [`read_steps`] returns the step of each line, or None for a line that isn't a step. It refuses no file. A line is
 //!   a step exactly if it spells that step ([`steps_are_spelt`]). If all names can be used in a line, each step has a

@@ -20,10 +20,8 @@
 //! - [`sum_net`] counts the network of a plan and the steps from its opening to its end, runs it, and folds its rows;
 //! - [`put_summary`] writes the four lines of a demo's summary, one piece each.
 //!
-//! The input that `demo` makes from a seed and a size, and its summary.
-//!
 //! A demo is a circuit of 1 to 64 stages in a row, a partition that makes a unit of each stage, and a trace of pseudo-random
-//! numbers. The definitions in `specs/` say what each text is, byte by byte:
+//! numbers, all made from a seed and a size. The definitions in `specs/` say what each text is, byte by byte:
 //!
 //! - the circuit (CircuitText), the partition (PartitionText) and the trace (TraceText);
 //! - the four lines of the summary (SummaryText).
@@ -33,42 +31,40 @@
 //! tell: it is given the rows one after another.
 #![tactic(auto)]
 
+mod circuit;
+mod digits;
+mod fold;
 mod laws;
 mod lines;
+mod partition;
 mod printer;
 mod printing;
 mod rows;
 mod run;
 mod stopping;
+mod summary;
 mod sums;
 mod taking;
+mod trace;
 mod trays;
 mod window;
 
+pub use circuit::circuit_text;
+pub use fold::Fold;
 pub use laws::{
     openings_are_kept, openings_are_nets, steps_keep_nets, trays_keep_rows, windows_are_kept,
     zeros_are_a_start,
 };
 pub use lines::put_summary;
+pub use partition::partition_text;
 pub use printer::RowPrinter;
 pub use printing::{print_from, print_net};
 pub use rows::{output_values, tray_value};
 pub use run::run_rows;
 pub use stopping::run_to_stop;
+pub use summary::{fold_line, last_line, network_line, size_line};
 pub use sums::{Sums, sum_net};
 pub use taking::Rows;
+pub use trace::trace_text;
 pub use trays::{Trays, trays_of};
 pub use window::{run_window, window_end};
-
-mod circuit;
-mod digits;
-mod fold;
-mod partition;
-mod summary;
-mod trace;
-
-pub use circuit::circuit_text;
-pub use fold::Fold;
-pub use partition::partition_text;
-pub use summary::{fold_line, last_line, network_line, size_line};
-pub use trace::trace_text;

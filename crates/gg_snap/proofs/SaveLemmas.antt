@@ -10,10 +10,11 @@ use Rattle.gg_flat_tree.specs.Tree.{InstanceTree, IsTree, memory_at, path_at}
 use Rattle.gg_flat.specs.WellFormed.{IsWellFormed, MayDrive}
 use Rattle.gg_front.specs.Paths.{HavePaths, IsPath, IsSignalPath, is_path_byte, is_signal_byte}
 use Rattle.gg_cut_plan.specs.Held.{AreHeldOnce}
-use Rattle.gg_cut_reference.specs.Reference.{IsReference, Views, driver_by}
+use Rattle.gg_cut_reference.specs.Reference.{IsReference, Views}
 use Rattle.gg_snap.specs.text.Known.{CanSave, IsPlain}
 use Rattle.gg_snap.proofs.TextLemmas.FeedLemmas.{free-no, no-append, no-nil}
 use Rattle.gg_snap.proofs.TextLemmas.SaveLemmas.{plain-path, tree-memories}
+use Rattle.gg_flat.specs.Renaming.{renamed_driver, signals_by}
 
 -- ---- paths
 
@@ -40,7 +41,7 @@ pipes-plain paths (c ∷ pipes) all = All-cons IsPlain (codes "pipe:" ++ path_at
 
 -- ---- registers
 
-held-by : (to : ℕ → ℕ) (d : Driver) (r : ℕ) → driver_by to d ≡ Held r → d ≡ Held r
+held-by : (to : ℕ → ℕ) (d : Driver) (r : ℕ) → renamed_driver (signals_by to) d ≡ Held r → d ≡ Held r
 held-by to (Input place) r e = cc
 held-by to (Held register) r e = e
 held-by to (MemoryWord memory reader addr en) r e = cc

@@ -15,22 +15,23 @@ use Rattle.gg_flat.specs.Streams.{Flow}
 use Rattle.gg_order.proofs.RunsLemmas.AlongLemmas.{IsState-at}
 use Rattle.gg_cut_plan.specs.declared.plan.Plan.{Plan}
 use Rattle.gg_cut_reference.specs.Made.{IsFresh, plan_reference}
-use Rattle.gg_cut_reference.specs.Reference.{IsReference, Views, reader_by}
+use Rattle.gg_cut_reference.specs.Reference.{IsReference, Views}
 use Rattle.gg_cut_reference.proofs.PlanLemmas.{plan-formed, plan-made}
 use Rattle.gg_build.specs.Build.{IsToRunFrom}
 use Rattle.gg_snap.specs.text.Parts.{HasSizeOf}
 use Rattle.gg_snap.proofs.TextLemmas.PartLemmas.{no_bank}
 use Rattle.gg_snap.specs.Whole.{last_state}
 use Rattle.gg_snap.proofs.AloneLemmas.{run-alone}
+use Rattle.gg_flat.specs.Renaming.{renamed_reader, signals_by}
 
 past : {A : Type 0} (xs : List A) (k : ℕ) (d : A) → length xs ≤ k → get_or xs k d ≡ d
 past [] k d le = refl
 past (x ∷ xs) zero d le = absurd (omega (arith, le))
 past (x ∷ xs) (suc k) d le = past xs k d (omega (arith, le))
 
-reads-same : (latency : Latency) (to : ℕ → ℕ) (readers : List Reader) → read_count latency (map (λ reader. reader_by to reader) readers) ≡ read_count latency readers
+reads-same : (latency : Latency) (to : ℕ → ℕ) (readers : List Reader) → read_count latency (map (λ reader. renamed_reader (signals_by to) reader) readers) ≡ read_count latency readers
 reads-same Zero to readers = refl
-reads-same (One under) to readers = length-map readers (λ reader. reader_by to reader)
+reads-same (One under) to readers = length-map readers (λ reader. renamed_reader (signals_by to) reader)
 
 module _ (one all : FlatCircuit) (views : Views) (pipes : List ℕ) (reference : IsReference one all views pipes) (state : State) (typed : IsState all state) where
   inside : (m : ℕ) (any : Memory) → m < length one.memories → HasSizeOf (bank_at state.banks m) (bank_at (opening one).banks m)

@@ -14,15 +14,16 @@ use Rattle.gg_cut_split.proofs.ClosedLemmas.FaultlessLemmas.{faultless-apart}
 use Rattle.gg_cut_routes.proofs.RoutedLemmas.{routed-base}
 use Rattle.gg_cut_reference.specs.Made.{AllHeld, holder_of, keeper_of, plan_reference}
 use Rattle.gg_cut_reference.proofs.WholeReference.{made}
-use Rattle.gg_cut_reference.specs.Reference.{IsReference, Views, driver_by}
+use Rattle.gg_cut_reference.specs.Reference.{IsReference, Views}
 use Rattle.gg_snap.specs.text.Whole.{HasHolder, IsWhole}
+use Rattle.gg_flat.specs.Renaming.{renamed_driver, signals_by}
 
 module _ (one all : FlatCircuit) (views : Views) (pipes : List ℕ) (reference : IsReference one all views pipes) (tree : InstanceTree) (keeps : KeepsToTree one tree) (held : AllHeld one) where
   own : (r : ℕ) → r < length one.registers → HasHolder all r
   own r lt =
       let holder = held r lt in
       let low = holder.within in
-      record { signal = holder.signal; known = omega (arith, low, reference.signals); holds = reference.drivers holder.signal low ∙ ap (driver_by (views.seen (views.maker holder.signal))) holder.holds }
+      record { signal = holder.signal; known = omega (arith, low, reference.signals); holds = reference.drivers holder.signal low ∙ ap (renamed_driver (signals_by (views.seen (views.maker holder.signal)))) holder.holds }
 
   piped : (r : ℕ) → length one.registers ≤ r → r < length all.registers → HasHolder all r
   piped r le lt =

@@ -1,6 +1,6 @@
 //! Snapshots of a plan's network.
 //!
-//! A snapshot (gg_snap) has the state of a circuit before a cycle. The circuit is the reference circuit of a plan (gg_cut_reference): the
+//! A snapshot has the state of a circuit before a cycle. The circuit is the reference circuit of a plan (gg_cut_reference): the
 //! design's circuit with a register for each pipe. So it doesn't depend on units, hosts or capacities. The crate promises:
 //!
 //! - [`snapshot`] gathers the state of the reference circuit from a network at the end of its run: from each machine its part, and from the
@@ -11,16 +11,16 @@
 //! - the reference circuit of a plan can be saved ([`plans_can_save`]), and a snapshot's text has all of its state ([`plans_are_whole`]).
 //!
 //! Both take time linear in the plan, its pieces, the state and the trace.
+//!
+//! `text` writes and reads snapshots as texts.
 #![tactic(auto)]
 
 mod gathering;
 mod laws;
 mod pipes;
 mod snaps;
+mod text;
 
 pub use laws::{networks_hold_states, plans_are_whole, plans_can_save, plans_have_all};
 pub use snaps::{restore, snapshot};
-
-mod text;
-
 pub use text::{Draft, Snap, SnapFault, one_snapshot, read_snap, snap_text, trees_can_save};

@@ -1,16 +1,17 @@
 //! The program golden with a bridge of its own: `fifo8`, a FIFO with four places of 8 bits each, which it hands in. It shows what a program with
 //! bridges of its own has to do. The words of its call are those of golden.
 //!
-//! An example of a bridge that golden doesn't have: a FIFO with four places, in the host's own code.
-//!
 //! A [`Fifo`] keeps to a flat circuit, which specs/Fifo has. That it does is proved, so a run with it is a run of the circuit that has this
 //! flat circuit at the bridge's ports.
 #![tactic(auto)]
 
+mod fifo;
+mod model;
+
 ghost use Rattle.std.specs.Prelude.{◌≡◌, [], ◌∷◌, codes, length, IfOk};
 ghost use Rattle.gg_flat.specs.State.{opening};
 
-use crate::Fifo;
+use crate::fifo::Fifo;
 use gg_bits::Name;
 use gg_bridge::Bridge;
 use gg_io::{FileShelf, NoGate, Shelf, Sink, StreamSink};
@@ -100,8 +101,3 @@ fn main(rt: HostRuntime) -> ExitCode {
         Err(_) => out_of_memory(rt),
     }
 }
-
-mod fifo;
-mod model;
-
-pub use fifo::Fifo;

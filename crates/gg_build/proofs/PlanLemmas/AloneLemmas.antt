@@ -13,7 +13,7 @@ use Rattle.gg_flat.specs.Circuit.{driver_at}
 use Rattle.gg_flat.specs.Memory.{LooksAmong, WritesAmong}
 use Rattle.gg_flat.specs.WellFormed.{IsWellFormed, AreDriven, reader_driver}
 use Rattle.gg_flat.proofs.ListLemmas.{once-apart}
-use Rattle.gg_part.specs.Part.{MemoryBelow, renamed_memory, renamed_reader, renamed_writer}
+use Rattle.gg_part.specs.Part.{MemoryBelow, in_whole}
 use Rattle.gg_part.specs.Building.{IsHeldIn}
 use Rattle.gg_part.specs.declared.part.Part.{Part}
 use Rattle.gg_part.proofs.FormedLemmas.{IsWellFormed-part}
@@ -24,6 +24,7 @@ use Rattle.gg_build.specs.plan.Alone.{IsCutAgain}
 use Rattle.gg_build.proofs.PlanLemmas.NumberLemmas.{none-in}
 use Rattle.gg_build.proofs.PlanLemmas.BackLemmas.{All-unmap, words-back}
 use Rattle.gg_build.proofs.PlanLemmas.MemoryPartLemmas.{ReaderAmong, WriterAmong, IsMemoryPart}
+use Rattle.gg_flat.specs.Renaming.{renamed_memory, renamed_reader, renamed_writer}
 
 -- ---- registers
 
@@ -95,34 +96,34 @@ module _ (part alone : Part) (memory : Memory) (formed : IsWellFormed part.piece
   count = ap length is.memories
 
   module _ (inner : Memory) (only : alone.piece.memories ≡ inner ∷ []) where
-    whole : memory ≡ renamed_memory alone.globals alone.clocks inner
+    whole : memory ≡ renamed_memory (in_whole alone.globals alone.clocks) inner
     whole =
         ap (λ (l : List Memory). get_or l 0 memory) (sym own.only)
         ∙ ap (λ k. get_or part.piece.memories k memory) (sym first)
         ∙ (is.is_part.memory_from 0 (omega (arith, count))).is inner memory
-        ∙ ap (λ (l : List Memory). renamed_memory alone.globals alone.clocks (get_or l 0 inner)) only
+        ∙ ap (λ (l : List Memory). renamed_memory (in_whole alone.globals alone.clocks) (get_or l 0 inner)) only
 
     below : MemoryBelow (length alone.globals) inner
     below = subst (λ (l : List Memory). MemoryBelow (length alone.globals) (get_or l 0 inner)) only ((is.is_part.memory_from 0 (omega (arith, count))).below inner)
 
     looks : All (LooksAmong (length alone.piece.ins)) inner.readers
     looks r any lt =
-        let among = All-unmap (ReaderAmong part.piece.ins) (renamed_reader alone.globals alone.clocks) inner.readers (subst (λ (x : Memory). All (ReaderAmong part.piece.ins) x.readers) whole own.looks) r any lt in
+        let among = All-unmap (ReaderAmong part.piece.ins) (renamed_reader (in_whole alone.globals alone.clocks)) inner.readers (subst (λ (x : Memory). All (ReaderAmong part.piece.ins) x.readers) whole own.looks) r any lt in
         let at = below.readers r any lt in
         let reader = get_or inner.readers r any in
         (field-low reader.addr at.0 among.0, field-low reader.en at.1 among.1)
 
     writes : All (WritesAmong (length alone.piece.ins)) inner.writers
     writes r any lt =
-        let among = All-unmap (WriterAmong part.piece.ins) (renamed_writer alone.globals alone.clocks) inner.writers (subst (λ (x : Memory). All (WriterAmong part.piece.ins) x.writers) whole own.writes) r any lt in
+        let among = All-unmap (WriterAmong part.piece.ins) (renamed_writer (in_whole alone.globals alone.clocks)) inner.writers (subst (λ (x : Memory). All (WriterAmong part.piece.ins) x.writers) whole own.writes) r any lt in
         let at = below.writers r any lt in
         let writer = get_or inner.writers r any in
         (field-low writer.addr at.0 among.0, field-low writer.en at.1 among.1, field-low writer.word at.2 among.2, field-low writer.mask at.3 among.3)
 
     few : length inner.readers + length inner.writers < 2 ^ 32
     few =
-        let reads : length memory.readers ≡ length inner.readers = ap (λ (x : Memory). length x.readers) whole ∙ length-map inner.readers (renamed_reader alone.globals alone.clocks) in
-        let writes : length memory.writers ≡ length inner.writers = ap (λ (x : Memory). length x.writers) whole ∙ length-map inner.writers (renamed_writer alone.globals alone.clocks) in
+        let reads : length memory.readers ≡ length inner.readers = ap (λ (x : Memory). length x.readers) whole ∙ length-map inner.readers (renamed_reader (in_whole alone.globals alone.clocks)) in
+        let writes : length memory.writers ≡ length inner.writers = ap (λ (x : Memory). length x.writers) whole ∙ length-map inner.writers (renamed_writer (in_whole alone.globals alone.clocks)) in
         omega (arith, reads, writes, own.few)
 
     words : alone.piece.outs ≡ map (λ (reader : Reader). reader.word) inner.readers

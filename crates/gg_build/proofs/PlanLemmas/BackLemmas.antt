@@ -7,8 +7,9 @@ use Rattle.std.proofs.lemmas.Simd.{map-map}
 use Rattle.gg_flat.specs.declared.memory.Reader.{Reader}
 use Rattle.gg_flat.specs.Line.{value_at}
 use Rattle.gg_flat.proofs.ListLemmas.{once-apart}
-use Rattle.gg_part.specs.Part.{renamed_reader, ReadsAmong}
+use Rattle.gg_part.specs.Part.{ReadsAmong, in_whole}
 use Rattle.gg_cut_split.proofs.ClosedLemmas.ListLemmas.{map-cases}
+use Rattle.gg_flat.specs.Renaming.{renamed_reader}
 
 pub All-unmap : {A B : Type 0} (P : B → Type 0) (f : A → B) (xs : List A) → All P (map f xs) → All (λ x. P (f x)) xs
 All-unmap P f xs all = λ i d lt. subst P (get_or-map f xs i d (f d) lt) (all i (f d) (omega (arith, lt, length-map xs f)))
@@ -37,7 +38,7 @@ module _ (globals : List ℕ) (once : AllPairs (λ a b. a ≢ b) globals) where
       (sym (get_or-map (value_at globals) xs k 0 0 lt) ∙ ap (λ (l : List ℕ). value_at l k) is ∙ get_or-map (value_at globals) ys k 0 0 inside))
 
   -- out-signals that stand for the data of readers are the data of these readers
-  pub words-back : (clocks : List (Option ℕ)) (outs : List ℕ) (readers : List Reader) → ((k : ℕ) → k < length outs → value_at outs k < length globals) → All (λ reader. ReadsAmong (length globals) reader) readers → map (value_at globals) outs ≡ map (λ (reader : Reader). reader.word) (map (renamed_reader globals clocks) readers)
+  pub words-back : (clocks : List (Option ℕ)) (outs : List ℕ) (readers : List Reader) → ((k : ℕ) → k < length outs → value_at outs k < length globals) → All (λ reader. ReadsAmong (length globals) reader) readers → map (value_at globals) outs ≡ map (λ (reader : Reader). reader.word) (map (renamed_reader (in_whole globals clocks)) readers)
       → outs ≡ map (λ (reader : Reader). reader.word) readers
   words-back clocks outs readers low among is =
       let word : Reader → ℕ = λ reader. reader.word in
@@ -46,4 +47,4 @@ module _ (globals : List ℕ) (once : AllPairs (λ a b. a ≢ b) globals) where
       (λ k lt.
       let inside : k < length readers = omega (arith, lt, length-map readers word) in
       subst (λ s. s < length globals) (sym (get_or-map word readers k nobody 0 inside)) (among k nobody inside).2)
-      (is ∙ map-map word (renamed_reader globals clocks) readers ∙ sym (map-map (value_at globals) word readers))
+      (is ∙ map-map word (renamed_reader (in_whole globals clocks)) readers ∙ sym (map-map (value_at globals) word readers))

@@ -18,7 +18,6 @@ use Rattle.gg_flat.specs.WellFormed.{AreDriven, reader_driver}
 use Rattle.gg_flat.specs.Run.{Start}
 use Rattle.gg_part.specs.KeepsToTree.{KeepsToTree}
 use Rattle.gg_order.specs.Design.{Ordered, IsDesign}
-use Rattle.gg_part.specs.Part.{renamed_memory, renamed_reader, renamed_writer}
 use Rattle.gg_part.specs.declared.part.Part.{Part}
 use Rattle.gg_part.proofs.FormedLemmas.{IsWellFormed-part}
 use Rattle.gg_partfile.specs.declared.request.Request.{Request}
@@ -60,6 +59,8 @@ use Rattle.gg_build.proofs.PlanLemmas.WireLemmas.{places-up}
 use Rattle.gg_build.proofs.PlanLemmas.ChannelLemmas.{channel-back}
 use Rattle.gg_build.proofs.PlanLemmas.TurnLemmas.{number_of, reader_of, writer_of, turns-alone}
 use Rattle.gg_build.proofs.PlanLemmas.ReachLemmas.{AreReached, late-needs, same-cycle-needs}
+use Rattle.gg_flat.specs.Renaming.{renamed_memory, renamed_reader, renamed_writer}
+use Rattle.gg_part.specs.Part.{in_whole}
 
 module _ (design : Ordered) (request : Request) (m : ℕ) (part : Part) (is : IsDesign design) (keeps : KeepsToTree design.circuit design.tree) (faultless : first_fault design request ≡ None) (low : first_memory (listed_of design.tree request) ≤ m) (high : m < first_source (listed_of design.tree request)) (cut : IsCutPart design (listed_of design.tree request) (plan_hub design.circuit design.tree request) m part) (begins : Start) (machine : Machine) (stands : IsMemoryOf begins part machine) where
   abbrev circuit : FlatCircuit
@@ -153,19 +154,19 @@ module _ (design : Ordered) (request : Request) (m : ℕ) (part : Part) (is : Is
     abbrev k : ℕ
     k = memory_of design.tree (listed_of design.tree request) m
 
-    inner-is : outer ≡ renamed_memory stands.alone.globals stands.alone.clocks inner
+    inner-is : outer ≡ renamed_memory (in_whole stands.alone.globals stands.alone.clocks) inner
     inner-is =
         let first : value_at stands.alone.memories 0 ≡ 0 = ap (λ (l : List ℕ). value_at l 0) stands.memories in
         ap (λ (l : List Memory). get_or l 0 outer) (sym own.only)
         ∙ ap (λ j. get_or part.piece.memories j outer) (sym first)
         ∙ (stands.is_part.memory_from 0 (omega (arith, ap length stands.memories))).is inner outer
-        ∙ ap (λ (l : List Memory). renamed_memory stands.alone.globals stands.alone.clocks (get_or l 0 inner)) only
+        ∙ ap (λ (l : List Memory). renamed_memory (in_whole stands.alone.globals stands.alone.clocks) (get_or l 0 inner)) only
 
     there : k < length circuit.memories
     there = known design request m part is keeps apart routed low high cut outer own.only
 
-    whole-is : get_or circuit.memories k outer ≡ renamed_memory part.globals part.clocks (renamed_memory stands.alone.globals stands.alone.clocks inner)
-    whole-is = whole design request m part is keeps apart routed low high cut outer own.only ∙ ap (renamed_memory part.globals part.clocks) inner-is
+    whole-is : get_or circuit.memories k outer ≡ renamed_memory (in_whole part.globals part.clocks) (renamed_memory (in_whole stands.alone.globals stands.alone.clocks) inner)
+    whole-is = whole design request m part is keeps apart routed low high cut outer own.only ∙ ap (renamed_memory (in_whole part.globals part.clocks)) inner-is
 
     latency-is : latency_at circuit k ≡ inner.latency
     latency-is = get_or-map (λ (x : Memory). x.latency) circuit.memories k outer Zero there ∙ ap (λ (x : Memory). x.latency) whole-is
@@ -174,13 +175,13 @@ module _ (design : Ordered) (request : Request) (m : ℕ) (part : Part) (is : Is
     readers-are =
         get_or-map (λ (x : Memory). x.readers) circuit.memories k outer [] there
         ∙ ap (λ (x : Memory). x.readers) whole-is
-        ∙ map-map (renamed_reader part.globals part.clocks) (renamed_reader stands.alone.globals stands.alone.clocks) inner.readers
+        ∙ map-map (renamed_reader (in_whole part.globals part.clocks)) (renamed_reader (in_whole stands.alone.globals stands.alone.clocks)) inner.readers
 
     writers-are : writers_at circuit k ≡ map (writer_of part.globals stands.alone.globals part.clocks stands.alone.clocks) inner.writers
     writers-are =
         get_or-map (λ (x : Memory). x.writers) circuit.memories k outer [] there
         ∙ ap (λ (x : Memory). x.writers) whole-is
-        ∙ map-map (renamed_writer part.globals part.clocks) (renamed_writer stands.alone.globals stands.alone.clocks) inner.writers
+        ∙ map-map (renamed_writer (in_whole part.globals part.clocks)) (renamed_writer (in_whole stands.alone.globals stands.alone.clocks)) inner.writers
 
     turns-by : ports_by (latency_at circuit k) (readers_at circuit k) (writers_at circuit k) ≡ ports_by inner.latency (map (reader_of part.globals stands.alone.globals part.clocks stands.alone.clocks) inner.readers) (map (writer_of part.globals stands.alone.globals part.clocks stands.alone.clocks) inner.writers)
     turns-by =
@@ -204,8 +205,8 @@ module _ (design : Ordered) (request : Request) (m : ℕ) (part : Part) (is : Is
         get_or-map (λ (x : Memory). length x.readers + length x.writers) circuit.memories k outer 0 there
         ∙ ap (λ (x : Memory). length x.readers + length x.writers) whole-is
         ∙ ap₂ (λ (a b : ℕ). a + b)
-        (length-map (map (renamed_reader stands.alone.globals stands.alone.clocks) inner.readers) (renamed_reader part.globals part.clocks) ∙ length-map inner.readers (renamed_reader stands.alone.globals stands.alone.clocks))
-        (length-map (map (renamed_writer stands.alone.globals stands.alone.clocks) inner.writers) (renamed_writer part.globals part.clocks) ∙ length-map inner.writers (renamed_writer stands.alone.globals stands.alone.clocks))
+        (length-map (map (renamed_reader (in_whole stands.alone.globals stands.alone.clocks)) inner.readers) (renamed_reader (in_whole part.globals part.clocks)) ∙ length-map inner.readers (renamed_reader (in_whole stands.alone.globals stands.alone.clocks)))
+        (length-map (map (renamed_writer (in_whole stands.alone.globals stands.alone.clocks)) inner.writers) (renamed_writer (in_whole part.globals part.clocks)) ∙ length-map inner.writers (renamed_writer (in_whole stands.alone.globals stands.alone.clocks)))
         ∙ sym (ap count_of only)
 
     -- ---- needs
@@ -311,19 +312,19 @@ module _ (design : Ordered) (request : Request) (m : ℕ) (part : Part) (is : Is
 
       -- the out of the reader, and its driver
       abbrev inner_reader : Reader
-      inner_reader = renamed_reader stands.alone.globals stands.alone.clocks reader
+      inner_reader = renamed_reader (in_whole stands.alone.globals stands.alone.clocks) reader
 
-      there-inner : o < length (map (renamed_reader stands.alone.globals stands.alone.clocks) inner.readers)
-      there-inner = omega (arith, some, length-map inner.readers (renamed_reader stands.alone.globals stands.alone.clocks))
+      there-inner : o < length (map (renamed_reader (in_whole stands.alone.globals stands.alone.clocks)) inner.readers)
+      there-inner = omega (arith, some, length-map inner.readers (renamed_reader (in_whole stands.alone.globals stands.alone.clocks)))
 
-      reader-is : get_or (map (renamed_reader stands.alone.globals stands.alone.clocks) inner.readers) o nobody ≡ inner_reader
-      reader-is = get_or-map (renamed_reader stands.alone.globals stands.alone.clocks) inner.readers o nobody nobody some
+      reader-is : get_or (map (renamed_reader (in_whole stands.alone.globals stands.alone.clocks)) inner.readers) o nobody ≡ inner_reader
+      reader-is = get_or-map (renamed_reader (in_whole stands.alone.globals stands.alone.clocks)) inner.readers o nobody nobody some
 
       out-is : value_at part.piece.outs o ≡ inner_reader.word
       out-is =
           ap (λ (l : List ℕ). value_at l o) own.words
           ∙ ap (λ (x : Memory). value_at (map (λ (r : Reader). r.word) x.readers) o) inner-is
-          ∙ get_or-map (λ (r : Reader). r.word) (map (renamed_reader stands.alone.globals stands.alone.clocks) inner.readers) o nobody 0 there-inner
+          ∙ get_or-map (λ (r : Reader). r.word) (map (renamed_reader (in_whole stands.alone.globals stands.alone.clocks)) inner.readers) o nobody 0 there-inner
           ∙ ap (λ (r : Reader). r.word) reader-is
 
       driven : driver_at part.piece inner_reader.word ≡ reader_driver inner.latency 0 o inner_reader
@@ -345,7 +346,7 @@ module _ (design : Ordered) (request : Request) (m : ℕ) (part : Part) (is : Is
     pub memory-needs : (o : ℕ) → o < length part.piece.outs → AreReached part.piece (value_at part.piece.outs o) (needs_at (needs_of piece.memories) o)
     memory-needs o lt =
         let some : o < length inner.readers =
-        omega (arith, lt, ap length own.words, length-map outer.readers (λ (r : Reader). r.word), ap (λ (x : Memory). length x.readers) inner-is, length-map inner.readers (renamed_reader stands.alone.globals stands.alone.clocks)) in
+        omega (arith, lt, ap length own.words, length-map outer.readers (λ (r : Reader). r.word), ap (λ (x : Memory). length x.readers) inner-is, length-map inner.readers (renamed_reader (in_whole stands.alone.globals stands.alone.clocks))) in
         subst (AreReached part.piece (value_at part.piece.outs o))
         (sym (ap (λ (l : List Memory). needs_at (needs_of l) o) only ∙ get_or-map (needs_by inner.latency) inner.readers o nobody [] some))
         (needed o some inner.latency lt (ap (driver_at part.piece) (out-is o some) ∙ driven o some))

@@ -15,7 +15,7 @@ use Rattle.gg_flat.proofs.ListLemmas.{Contains-map}
 use Rattle.gg_part.specs.KeepsToTree.{KeepsToTree}
 use Rattle.gg_order.specs.Design.{Ordered, IsDesign}
 use Rattle.gg_partfile.specs.declared.request.Request.{Request}
-use Rattle.gg_part.specs.Part.{IsMemoryFrom, MemoryBelow, renamed_memory, renamed_reader, renamed_writer}
+use Rattle.gg_part.specs.Part.{IsMemoryFrom, MemoryBelow, in_whole}
 use Rattle.gg_part.specs.declared.part.Part.{Part}
 use Rattle.gg_cut_plan.specs.declared.listed.Listed.{Listed}
 use Rattle.gg_cut_plan.specs.declared.wires.Wire.{Wire as Link}
@@ -42,6 +42,7 @@ use Rattle.gg_build.proofs.PlanLemmas.SideLemmas.{link-one}
 use Rattle.gg_build.proofs.PlanLemmas.StillLemmas.{words-still, memory-plain}
 use Rattle.gg_build.proofs.PlanLemmas.WordLemmas.{memory-gives, memory-few}
 use Rattle.gg_build.proofs.PlanLemmas.BackLemmas.{distinct-back, contains-back, words-back}
+use Rattle.gg_flat.specs.Renaming.{renamed_memory, renamed_reader, renamed_writer}
 
 -- The fields of a reader that go to the memory are among these signals, and those of a writer too.
 abbrev pub ReaderAmong : List ℕ → Reader → Type 0
@@ -208,16 +209,16 @@ module _ (design : Ordered) (request : Request) (m : ℕ) (part : Part) (is : Is
     pub known : own < length circuit.memories
     known = subst (λ k. k < length circuit.memories) first from.within
 
-    pub whole : get_or circuit.memories own memory ≡ renamed_memory part.globals part.clocks memory
+    pub whole : get_or circuit.memories own memory ≡ renamed_memory (in_whole part.globals part.clocks) memory
     whole =
         ap (λ k. get_or circuit.memories k memory) (sym first)
         ∙ from.is memory memory
-        ∙ ap (λ (l : List Memory). renamed_memory part.globals part.clocks (get_or l 0 memory)) only
+        ∙ ap (λ (l : List Memory). renamed_memory (in_whole part.globals part.clocks) (get_or l 0 memory)) only
 
-    readers : readers_at circuit own ≡ map (renamed_reader part.globals part.clocks) memory.readers
+    readers : readers_at circuit own ≡ map (renamed_reader (in_whole part.globals part.clocks)) memory.readers
     readers = get_or-map (λ (x : Memory). x.readers) circuit.memories own memory [] known ∙ ap (λ (x : Memory). x.readers) whole
 
-    writers : writers_at circuit own ≡ map (renamed_writer part.globals part.clocks) memory.writers
+    writers : writers_at circuit own ≡ map (renamed_writer (in_whole part.globals part.clocks)) memory.writers
     writers = get_or-map (λ (x : Memory). x.writers) circuit.memories own memory [] known ∙ ap (λ (x : Memory). x.writers) whole
 
     below : MemoryBelow (length part.globals) memory
@@ -232,9 +233,9 @@ module _ (design : Ordered) (request : Request) (m : ℕ) (part : Part) (is : Is
     abbrev from_writers : List Link
     from_writers = flattened (writer_wires outside (first_memory listed + i)) (writers_at circuit own)
 
-    reader-link : (r : ℕ) (any : Reader) (w : Link) → r < length memory.readers → Contains (reader_wires outside (first_memory listed + i) (renamed_reader part.globals part.clocks (get_or memory.readers r any))) w → Contains plain w
+    reader-link : (r : ℕ) (any : Reader) (w : Link) → r < length memory.readers → Contains (reader_wires outside (first_memory listed + i) (renamed_reader (in_whole part.globals part.clocks) (get_or memory.readers r any))) w → Contains plain w
     reader-link r any w lt h =
-        let rename = renamed_reader part.globals part.clocks in
+        let rename = renamed_reader (in_whole part.globals part.clocks) in
         let inside : r < length (readers_at circuit own) = omega (arith, lt, ap length readers, length-map memory.readers rename) in
         let at : get_or (readers_at circuit own) r (rename any) ≡ rename (get_or memory.readers r any) = ap (λ (l : List Reader). get_or l r (rename any)) readers ∙ get_or-map rename memory.readers r any (rename any) lt in
         in-fields circuit tree listed i w there
@@ -242,9 +243,9 @@ module _ (design : Ordered) (request : Request) (m : ℕ) (part : Part) (is : Is
         (flattened-in (reader_wires outside (first_memory listed + i)) (readers_at circuit own) r (rename any) w inside
         (subst (λ (x : Reader). Contains (reader_wires outside (first_memory listed + i) x) w) (sym at) h)))
 
-    writer-link : (r : ℕ) (any : Writer) (w : Link) → r < length memory.writers → Contains (writer_wires outside (first_memory listed + i) (renamed_writer part.globals part.clocks (get_or memory.writers r any))) w → Contains plain w
+    writer-link : (r : ℕ) (any : Writer) (w : Link) → r < length memory.writers → Contains (writer_wires outside (first_memory listed + i) (renamed_writer (in_whole part.globals part.clocks) (get_or memory.writers r any))) w → Contains plain w
     writer-link r any w lt h =
-        let rename = renamed_writer part.globals part.clocks in
+        let rename = renamed_writer (in_whole part.globals part.clocks) in
         let inside : r < length (writers_at circuit own) = omega (arith, lt, ap length writers, length-map memory.writers rename) in
         let at : get_or (writers_at circuit own) r (rename any) ≡ rename (get_or memory.writers r any) = ap (λ (l : List Writer). get_or l r (rename any)) writers ∙ get_or-map rename memory.writers r any (rename any) lt in
         in-fields circuit tree listed i w there
@@ -285,8 +286,8 @@ module _ (design : Ordered) (request : Request) (m : ℕ) (part : Part) (is : Is
     few are =
         let channels = are.channels in
         let ports = memory-few circuit tree listed (is_piped circuit request) (is_driven circuit request) request.direct base i there in
-        let reads : length (readers_at circuit own) ≡ length memory.readers = ap length readers ∙ length-map memory.readers (renamed_reader part.globals part.clocks) in
-        let writes : length (writers_at circuit own) ≡ length memory.writers = ap length writers ∙ length-map memory.writers (renamed_writer part.globals part.clocks) in
+        let reads : length (readers_at circuit own) ≡ length memory.readers = ap length readers ∙ length-map memory.readers (renamed_reader (in_whole part.globals part.clocks)) in
+        let writes : length (writers_at circuit own) ≡ length memory.writers = ap length writers ∙ length-map memory.writers (renamed_writer (in_whole part.globals part.clocks)) in
         omega (arith, channels, ports, reads, writes)
 
   pub memory-part : AreFew circuit tree request → (memory : Memory) × IsMemoryPart part memory

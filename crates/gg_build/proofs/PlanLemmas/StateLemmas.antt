@@ -14,17 +14,18 @@ use Rattle.gg_flat.specs.Line.{shape_at, value_at}
 use Rattle.gg_flat.specs.Memory.{AreWords, Bank, IsBank, bank_at, read_count}
 use Rattle.gg_flat.specs.State.{IsState, State}
 use Rattle.gg_flat.proofs.ListLemmas.{some-item}
-use Rattle.gg_part.specs.Part.{IsPart, renamed_memory, renamed_reader, renamed_register}
+use Rattle.gg_part.specs.Part.{IsPart, in_whole}
 use Rattle.gg_part.specs.PartRun.{part_ratios, part_state, ratio_at}
+use Rattle.gg_flat.specs.Renaming.{renamed_memory, renamed_reader, renamed_register}
 
 -- ---- states
 
-reads-back : (globals : List ℕ) (clocks : List (Option ℕ)) (latency : Latency) (readers : List Reader) → read_count latency (map (λ reader. renamed_reader globals clocks reader) readers) ≡ read_count latency readers
+reads-back : (globals : List ℕ) (clocks : List (Option ℕ)) (latency : Latency) (readers : List Reader) → read_count latency (map (λ reader. renamed_reader (in_whole globals clocks) reader) readers) ≡ read_count latency readers
 reads-back globals clocks Zero readers = refl
-reads-back globals clocks (One under) readers = length-map readers (λ reader. renamed_reader globals clocks reader)
+reads-back globals clocks (One under) readers = length-map readers (λ reader. renamed_reader (in_whole globals clocks) reader)
 
 -- what a memory of the whole circuit can hold the part's can hold
-bank-back : (globals : List ℕ) (clocks : List (Option ℕ)) (memory : Memory) (bank : Bank) → IsBank (renamed_memory globals clocks memory) bank → IsBank memory bank
+bank-back : (globals : List ℕ) (clocks : List (Option ℕ)) (memory : Memory) (bank : Bank) → IsBank (renamed_memory (in_whole globals clocks) memory) bank → IsBank memory bank
 bank-back globals clocks memory bank is =
     record {
       words = is.words;
@@ -39,18 +40,18 @@ module _ (whole part : FlatCircuit) (globals held memories : List ℕ) (clocks :
   shape-held r lt =
       let within : r < length part.registers = omega (arith, lt, is.register_count) in
       let some = some-item part.registers r within in
-      let other = renamed_register globals clocks (get_or part.registers r some) in
+      let other = renamed_register (in_whole globals clocks) (get_or part.registers r some) in
       let at = is.register_from r lt in
       get_or-map shape_of part.registers r some (uint 0) within
       ∙ sym (get_or-map shape_of whole.registers (value_at held r) other (uint 0) at.within ∙ ap shape_of (at.is some other))
 
-  bank-held : (state : State) (m : ℕ) (any : Memory) → m < length memories → IsBank (get_or whole.memories (value_at memories m) (renamed_memory globals clocks (get_or part.memories m any))) (bank_at state.banks (value_at memories m))
+  bank-held : (state : State) (m : ℕ) (any : Memory) → m < length memories → IsBank (get_or whole.memories (value_at memories m) (renamed_memory (in_whole globals clocks) (get_or part.memories m any))) (bank_at state.banks (value_at memories m))
       → IsBank (get_or part.memories m any) (bank_at (map (bank_at state.banks) memories) m)
   bank-held state m any lt of =
       let local = get_or part.memories m any in
       subst (IsBank local) (sym (get_or-map (bank_at state.banks) memories m 0 (record { words = []; reads = [] }) lt))
       (bank-back globals clocks local (bank_at state.banks (value_at memories m))
-      (subst (λ (memory : Memory). IsBank memory (bank_at state.banks (value_at memories m))) ((is.memory_from m lt).is any (renamed_memory globals clocks local)) of))
+      (subst (λ (memory : Memory). IsBank memory (bank_at state.banks (value_at memories m))) ((is.memory_from m lt).is any (renamed_memory (in_whole globals clocks) local)) of))
 
   -- the part's state of a state of the whole circuit is a state of the part
   pub IsState-part : (state : State) → IsState whole state → IsState part (part_state held memories state)
@@ -72,7 +73,7 @@ module _ (whole part : FlatCircuit) (globals held memories : List ℕ) (clocks :
               count = length-map memories (bank_at state.banks) ∙ sym is.memory_count;
               each = λ m any lt.
                   let known : m < length memories = omega (arith, lt, is.memory_count) in
-                  bank-held state m any known (of.held.each (value_at memories m) (renamed_memory globals clocks (get_or part.memories m any)) (is.memory_from m known).within);
+                  bank-held state m any known (of.held.each (value_at memories m) (renamed_memory (in_whole globals clocks) (get_or part.memories m any)) (is.memory_from m known).within);
             };
       }
 

@@ -10,7 +10,6 @@ use Rattle.gg_flat.specs.declared.memory.Reader.{Reader}
 use Rattle.gg_flat.specs.declared.memory.Writer.{Writer}
 use Rattle.gg_flat.specs.Line.{value_at}
 use Rattle.gg_flat.specs.Served.{Access, ByReader, ByWriter, by_readers, by_writers, due_of}
-use Rattle.gg_part.specs.Part.{renamed_reader, renamed_writer}
 use Rattle.gg_cut_plan.specs.declared.wires.Wire.{Wire}
 use Rattle.gg_node.specs.Machine.{Port}
 use Rattle.gg_node.specs.Step.{fields_of}
@@ -19,6 +18,8 @@ use Rattle.gg_net.specs.Network.{Frame, IsAtIn, wire_at}
 use Rattle.gg_net.specs.markings.Fits.{AreTaken, IsTurnOf, AreTurnsOf, places_of}
 use Rattle.gg_build.proofs.PlanLemmas.PortLemmas.{IsFitPort}
 use Rattle.gg_build.specs.plan.CutLayout.{channel_of, turn_of}
+use Rattle.gg_flat.specs.Renaming.{renamed_reader, renamed_writer}
+use Rattle.gg_part.specs.Part.{in_whole}
 
 -- ---- ports with the signal numbers of the whole circuit
 
@@ -28,10 +29,10 @@ module _ (outer inner : List ℕ) (outer_clocks inner_clocks : List (Option ℕ)
   number_of s = value_at outer (value_at inner s)
 
   abbrev pub reader_of : Reader → Reader
-  reader_of reader = renamed_reader outer outer_clocks (renamed_reader inner inner_clocks reader)
+  reader_of reader = renamed_reader (in_whole outer outer_clocks) (renamed_reader (in_whole inner inner_clocks) reader)
 
   abbrev pub writer_of : Writer → Writer
-  writer_of writer = renamed_writer outer outer_clocks (renamed_writer inner inner_clocks writer)
+  writer_of writer = renamed_writer (in_whole outer outer_clocks) (renamed_writer (in_whole inner inner_clocks) writer)
 
   abbrev pub access_of : Access → Access
   access_of (ByReader r reader) = ByReader r (reader_of reader)

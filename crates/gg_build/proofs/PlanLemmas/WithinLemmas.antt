@@ -11,7 +11,6 @@ use Rattle.gg_flat.proofs.ListLemmas.{some-item}
 use Rattle.gg_flat.specs.Run.{Start}
 use Rattle.gg_order.specs.Design.{Ordered}
 use Rattle.gg_partfile.specs.declared.request.Request.{Request}
-use Rattle.gg_part.specs.Part.{renamed_memory, renamed_reader, renamed_writer}
 use Rattle.gg_part.specs.declared.part.Part.{Part}
 use Rattle.gg_cut_plan.specs.declared.listed.Listed.{Listed}
 use Rattle.gg_cut_plan.specs.declared.plan.Body.{Body}
@@ -39,6 +38,8 @@ use Rattle.gg_build.proofs.PlanLemmas.LinkLemmas.{length-from, length-wires, wir
 use Rattle.gg_build.proofs.PlanLemmas.MemoryPartLemmas.{IsMemoryPart, memory-part}
 use Rattle.gg_build.proofs.PlanLemmas.PlanLemmas as plans
 use Rattle.gg_build.proofs.PlanLemmas.RowLemmas.{sum-first}
+use Rattle.gg_flat.specs.Renaming.{renamed_memory, renamed_reader, renamed_writer}
+use Rattle.gg_part.specs.Part.{in_whole}
 
 count-most : (latency : Latency) (readers writers : ℕ) → count_by latency readers writers ≤ readers + writers
 count-most Zero readers writers = omega arith
@@ -52,13 +53,13 @@ memory-ports part begins memory machine own is =
     let inner = found.0 in
     let only = found.1 in
     let low = is.is_part.memory_from 0 (omega (arith, ap length is.memories)) in
-    let whole : memory ≡ renamed_memory is.alone.globals is.alone.clocks inner =
+    let whole : memory ≡ renamed_memory (in_whole is.alone.globals is.alone.clocks) inner =
     ap (λ (l : List Memory). get_or l 0 memory) (sym own.only)
     ∙ ap (λ (l : List ℕ). get_or part.piece.memories (get_or l 0 0) memory) (sym is.memories)
     ∙ low.is inner memory
-    ∙ ap (λ (l : List Memory). renamed_memory is.alone.globals is.alone.clocks (get_or l 0 inner)) only in
-    let reads : length memory.readers ≡ length inner.readers = ap (λ (x : Memory). length x.readers) whole ∙ length-map inner.readers (renamed_reader is.alone.globals is.alone.clocks) in
-    let writes : length memory.writers ≡ length inner.writers = ap (λ (x : Memory). length x.writers) whole ∙ length-map inner.writers (renamed_writer is.alone.globals is.alone.clocks) in
+    ∙ ap (λ (l : List Memory). renamed_memory (in_whole is.alone.globals is.alone.clocks) (get_or l 0 inner)) only in
+    let reads : length memory.readers ≡ length inner.readers = ap (λ (x : Memory). length x.readers) whole ∙ length-map inner.readers (renamed_reader (in_whole is.alone.globals is.alone.clocks)) in
+    let writes : length memory.writers ≡ length inner.writers = ap (λ (x : Memory). length x.writers) whole ∙ length-map inner.writers (renamed_writer (in_whole is.alone.globals is.alone.clocks)) in
     let served : length (ports_of piece.memories) ≡ count_by inner.latency (length inner.readers) (length inner.writers) = ap (λ (l : List Memory). length (ports_of l)) only ∙ count_ports inner.latency inner.readers inner.writers in
     subst (λ (t : Machine). length (kind_of t).ports ≤ 16384) (sym is.is)
     (omega (arith, served, count-most inner.latency (length inner.readers) (length inner.writers), reads, writes, own.few))

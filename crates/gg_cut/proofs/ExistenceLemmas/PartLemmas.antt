@@ -21,9 +21,8 @@ use Rattle.gg_flat.proofs.ListLemmas.{Contains-cases, further, here, some-item}
 use Rattle.gg_part.specs.Building.{AreHeld, AreMemories, AreRegisters, AreSignals, Holds, IsDriven, IsHeldIn}
 use Rattle.gg_part.specs.Choice.{IsChoice, NamesMemory}
 use Rattle.gg_part.specs.Clocking.{AreTimed, IsTimed, LeadsTo, PortsFollow, clocks_of_ports}
-use Rattle.gg_part.specs.Part.{IsFrom, IsPart, MemoryBelow, renamed_memory, renamed_register}
-use Rattle.gg_flat.specs.Renaming.{Renaming, renamed_driver}
-use Rattle.gg_flat.specs.Renaming as renaming
+use Rattle.gg_part.specs.Part.{IsFrom, IsPart, MemoryBelow, in_whole}
+use Rattle.gg_flat.specs.Renaming.{Renaming, renamed_driver, renamed_memory, renamed_register}
 use Rattle.gg_part.specs.Local.{own_by, own_memory}
 use Rattle.gg_part.proofs.BackLemmas as back
 use Rattle.gg_part.proofs.BackLemmas.{LeadsBack, register-back, register-below}
@@ -176,7 +175,7 @@ module _ (whole : FlatCircuit) (globals ins outs memories : List ℕ) (clocks re
 
   abbrev RegisterFor : ℕ → Register → Type 0
   RegisterFor k register =
-      ((other : Register) → get_or whole.registers (value_at own_held k) other ≡ renamed_register globals clocks register)
+      ((other : Register) → get_or whole.registers (value_at own_held k) other ≡ renamed_register (in_whole globals clocks) register)
       × ((t : ℕ) → RegisterNames register t → t < length globals)
       × IsClock (length clocks) register.clock
       × (register.clock ≡ get_or registers (value_at own_held k) None)
@@ -191,7 +190,7 @@ module _ (whole : FlatCircuit) (globals ins outs memories : List ℕ) (clocks re
       let leads = timed.register r any (are_held.sound r among) in
       let closed : (t : ℕ) → RegisterNames item t → Contains globals t = λ t n. register-closed whole globals ins own_held memories chosen are_held r t item among (slice_get-get_or whole.registers r any known) n in
       record {
-        it = renaming.renamed_register (own_by (place_in globals) (get_or registers r None)) item;
+        it = renamed_register (own_by (place_in globals) (get_or registers r None)) item;
         is = (
           λ other. get_or_default whole.registers r other any known ∙ sym (register-back globals (place_in globals) (leads-back globals) clocks (get_or registers r None) item closed leads.leads),
           register-below globals (place_in globals) (leads-back globals) (get_or registers r None) item closed,
@@ -202,7 +201,7 @@ module _ (whole : FlatCircuit) (globals ins outs memories : List ℕ) (clocks re
 
   abbrev MemoryFor : ℕ → Memory → Type 0
   MemoryFor k memory =
-      ((other : Memory) → get_or whole.memories (value_at memories k) other ≡ renamed_memory globals clocks memory)
+      ((other : Memory) → get_or whole.memories (value_at memories k) other ≡ renamed_memory (in_whole globals clocks) memory)
       × MemoryBelow (length globals) memory
       × IsClockedMemory (length clocks) memory
       × PortsFollow (get_or ports (value_at memories k) []) memory

@@ -9,13 +9,14 @@ use Rattle.gg_flat.specs.declared.piece.Driver.TheVariants.{Input, Held, MemoryW
 use Rattle.gg_flat.specs.Line.{value_at}
 use Rattle.gg_flat.specs.Circuit.{FlatCircuit, driver_at}
 use Rattle.gg_flat.specs.Reads.{Names, NamesSignal, Reads, IsPath}
-use Rattle.gg_part.specs.Part.{IsPart, IsFrom, renamed_op, renamed_line}
+use Rattle.gg_part.specs.Part.{IsPart, IsFrom}
 use Rattle.gg_part.proofs.AlongLemmas.{named-in}
 use Rattle.gg_cut_reference.specs.text.CheckText.{IsPathInside}
+use Rattle.gg_flat.specs.Renaming.{renamed_line, renamed_op}
 
 -- ---- what a driver of the whole names, the part's driver names
 
-op-back : (globals : List ℕ) (op : Op) (t : ℕ) → renamed_op globals op ≡ Ref t → (s : ℕ) × (op ≡ Ref s) × (value_at globals s ≡ t)
+op-back : (globals : List ℕ) (op : Op) (t : ℕ) → renamed_op (value_at globals) op ≡ Ref t → (s : ℕ) × (op ≡ Ref s) × (value_at globals s ≡ t)
 op-back globals (Ref s) t e = (s, refl, cc)
 op-back globals (Literal value) t e = absurd (cc)
 op-back globals (One op i) t e = absurd (cc)
@@ -23,7 +24,7 @@ op-back globals (Two op i j) t e = absurd (cc)
 op-back globals (Fix op i n m) t e = absurd (cc)
 op-back globals (Mux c i j) t e = absurd (cc)
 
-Names-back : (globals : List ℕ) (line : List Node) (t : ℕ) → Names (renamed_line globals line) t → (s : ℕ) × Names line s × (value_at globals s ≡ t)
+Names-back : (globals : List ℕ) (line : List Node) (t : ℕ) → Names (renamed_line (value_at globals) line) t → (s : ℕ) × Names line s × (value_at globals s ≡ t)
 Names-back globals [] t named = absurd (omega (arith, named.1))
 Names-back globals (node ∷ nodes) t (zero, lt, is) =
     let found = op-back globals node.op t is in

@@ -5,7 +5,7 @@ use Rattle.std.proofs.lemmas.List.Elements.{Contains-get_or}
 use Rattle.gg_flat.specs.declared.memory.Memory.{Memory}
 use Rattle.gg_flat_tree.specs.Tree.{InstanceTree}
 use Rattle.gg_part.specs.Copies.{Start}
-use Rattle.gg_part.specs.Moved.{moved_memory, shifted, unclocked_memory}
+use Rattle.gg_part.specs.Moved.{shifted, unclocked_memory}
 use Rattle.gg_order.specs.Design.{Ordered}
 use Rattle.gg_cut_plan.specs.declared.listed.Listed.{Listed}
 use Rattle.gg_cut_plan.specs.Machines.{first_memory, unit_number}
@@ -17,6 +17,7 @@ use Rattle.gg_cut_split.proofs.ClosedLemmas.MakerLemmas.{find-unit}
 use Rattle.gg_cut_split.proofs.AgainLemmas.AscendingLemmas.{counterparts-same}
 use Rattle.gg_cut_split.proofs.AgainLemmas.AtAgainLemmas.{shifted-back}
 use Rattle.gg_cut_split.proofs.AgainLemmas.Pair.{ArePair, IsInUnit, turned}
+use Rattle.gg_flat.specs.Renaming.{renamed_memory, signals_by}
 
 -- The memory at place p is in the unit at place u, and isn't listed.
 pub record IsOwn (tree : InstanceTree) (listed : Listed) (u p : ℕ) : Type 0 where
@@ -63,7 +64,7 @@ module _ (design : Ordered) (listed : Listed) (u v : ℕ) (one other : Start) (p
 
   pub memory-too : (k : ℕ) (any : Memory) → HasMemory design.tree listed (unit_number u) k
       → (shifted one.memories other.memories k < length design.circuit.memories)
-      × (unclocked_memory (slice_index_or design.circuit.memories (shifted one.memories other.memories k) any) ≡ unclocked_memory (moved_memory (shifted one.signals other.signals) (slice_index_or design.circuit.memories k any)))
+      × (unclocked_memory (slice_index_or design.circuit.memories (shifted one.memories other.memories k) any) ≡ unclocked_memory (renamed_memory (signals_by (shifted one.signals other.signals)) (slice_index_or design.circuit.memories k any)))
   memory-too k any has =
       let own = own-of k has in
       let within = pair.there.within k own.known own.inside in

@@ -10,12 +10,13 @@ use Rattle.gg_flat_tree.specs.Tree.{InstanceTree, memory_at}
 use Rattle.gg_flat_tree.specs.Scoped.{reader_fields, writer_fields, writers_at, memory_fields}
 use Rattle.gg_flat.proofs.ListLemmas.{some-item}
 use Rattle.gg_part.specs.Copies.{Start}
-use Rattle.gg_part.specs.Moved.{shifted, moved_memory, moved_reader, moved_writer, unclocked_memory, unclocked_reader, unclocked_writer}
+use Rattle.gg_part.specs.Moved.{shifted, unclocked_memory, unclocked_reader, unclocked_writer}
 use Rattle.gg_order.specs.Design.{Ordered}
 use Rattle.gg_cut_plan.specs.declared.listed.Listed.{Listed}
 use Rattle.gg_cut_split.proofs.AgainLemmas.FlatLemmas.{flat-alike}
 use Rattle.gg_cut_split.proofs.AgainLemmas.Pair.{ArePair, IsInUnit}
 use Rattle.gg_cut_split.proofs.AgainLemmas.TakenLemmas.{word, words}
+use Rattle.gg_flat.specs.Renaming.{renamed_memory, renamed_reader, renamed_writer, signals_by}
 
 module _ (design : Ordered) (listed : Listed) (u v : ℕ) (one other : Start) (pair : ArePair design listed u v one other) (p : ℕ) (known : p < length design.tree.memories) (inside : IsInUnit design.tree listed u p) where
   abbrev circuit : FlatCircuit
@@ -42,22 +43,22 @@ module _ (design : Ordered) (listed : Listed) (u v : ℕ) (one other : Start) (p
   writers-at : (k : ℕ) → k < length design.tree.memories → writers_at circuit (memory_at tree k).memory ≡ (memory_of k).writers
   writers-at k lt = ap (writers_at design.circuit) (pair.keeps.copies.number k lt) ∙ get_or-map (λ (memory : Memory). memory.writers) design.circuit.memories k any [] (omega (arith, lt, pair.keeps.fitting.count))
 
-  alike : unclocked_memory (memory_of there) ≡ unclocked_memory (moved_memory to (memory_of p))
+  alike : unclocked_memory (memory_of there) ≡ unclocked_memory (renamed_memory (signals_by to) (memory_of p))
   alike = pair.copy.memory p any known (pair.there.lies p known inside)
 
   within : shifted one.memories other.memories p < length design.tree.memories
   within = pair.there.within p known inside
 
-  of-readers : (f : Reader → List ℕ) → ((reader : Reader) → f (unclocked_reader reader) ≡ f reader) → ((reader : Reader) → f (moved_reader to reader) ≡ map to (f reader)) → flat_map f (readers_at circuit (memory_at tree there).memory) ≡ map to (flat_map f (readers_at circuit (memory_at tree p).memory))
+  of-readers : (f : Reader → List ℕ) → ((reader : Reader) → f (unclocked_reader reader) ≡ f reader) → ((reader : Reader) → f (renamed_reader (signals_by to) reader) ≡ map to (f reader)) → flat_map f (readers_at circuit (memory_at tree there).memory) ≡ map to (flat_map f (readers_at circuit (memory_at tree p).memory))
   of-readers f same moves =
       ap (flat_map f) (readers-at there within)
-      ∙ flat-alike f unclocked_reader (moved_reader to) to (memory_of p).readers (memory_of there).readers same moves (ap (λ (memory : Memory). memory.readers) alike)
+      ∙ flat-alike f unclocked_reader (renamed_reader (signals_by to)) to (memory_of p).readers (memory_of there).readers same moves (ap (λ (memory : Memory). memory.readers) alike)
       ∙ ap (λ l. map to (flat_map f l)) (sym (readers-at p known))
 
   of-writers : flat_map (λ writer. writer_fields writer) (writers_at circuit (memory_at tree there).memory) ≡ map to (flat_map (λ writer. writer_fields writer) (writers_at circuit (memory_at tree p).memory))
   of-writers =
       ap (flat_map (λ (writer : Writer). writer_fields writer)) (writers-at there within)
-      ∙ flat-alike (λ (writer : Writer). writer_fields writer) unclocked_writer (moved_writer to) to (memory_of p).writers (memory_of there).writers (λ writer. refl) (λ writer. refl) (ap (λ (memory : Memory). memory.writers) alike)
+      ∙ flat-alike (λ (writer : Writer). writer_fields writer) unclocked_writer (renamed_writer (signals_by to)) to (memory_of p).writers (memory_of there).writers (λ writer. refl) (λ writer. refl) (ap (λ (memory : Memory). memory.writers) alike)
       ∙ ap (λ l. map to (flat_map (λ (writer : Writer). writer_fields writer) l)) (sym (writers-at p known))
 
   -- the data of the counterpart's readers

@@ -9,7 +9,7 @@ use Rattle.gg_flat_tree.specs.Scoped.{IsInputOf}
 use Rattle.gg_flat_tree.specs.Tree.{InstanceTree, Holds, instance_at}
 use Rattle.gg_flat.specs.WellFormed.{MayDrive}
 use Rattle.gg_part.specs.Copies.{Start}
-use Rattle.gg_part.specs.Moved.{moved_driver, moved_register, shifted, unclocked_register}
+use Rattle.gg_part.specs.Moved.{shifted, unclocked_register}
 use Rattle.gg_order.specs.Design.{Ordered}
 use Rattle.gg_cut_plan.specs.declared.listed.Listed.{Listed}
 use Rattle.gg_cut_plan.specs.declared.wires.Wire.{Wire}
@@ -27,6 +27,7 @@ use Rattle.gg_cut_split.proofs.AgainLemmas.AtAgainLemmas.{held-moved}
 use Rattle.gg_cut_split.proofs.AgainLemmas.Pair.{ArePair, AreChannelsOver}
 use Rattle.gg_cut_split.proofs.AgainLemmas.TakenLemmas.{outside-hub}
 use Rattle.gg_cut_split.proofs.AgainLemmas.UnitSignalLemmas.{inner-held, holder-owner}
+use Rattle.gg_flat.specs.Renaming.{numbers_by, renamed_driver, renamed_register, signals_by}
 
 module _ (design : Ordered) (listed : Listed) (u v : ℕ) (one other : Start) (pair : ArePair design listed u v one other) (channels : AreChannelsOver design listed u v one other) where
   abbrev circuit : FlatCircuit
@@ -106,14 +107,14 @@ module _ (design : Ordered) (listed : Listed) (u v : ℕ) (one other : Start) (p
           outside-hub design.circuit design.tree listed pair.keeps.fitting pair.apart u pair.there.known u pair.there.known (sym (ap (λ (x : Wire). x.producer) same) ∙ true-eqb w.wire.producer (suc u) (sym w.passes))
 
   pub driver-too : (s : ℕ) → Makes design.circuit design.tree listed (cut_wires design listed) (unit_number u) s
-      → driver_at design.circuit (shifted one.signals other.signals s) ≡ moved_driver (shifted one.signals other.signals) (shifted one.registers other.registers) (shifted one.memories other.memories) (driver_at design.circuit s)
+      → driver_at design.circuit (shifted one.signals other.signals s) ≡ renamed_driver (numbers_by (shifted one.signals other.signals) (shifted one.registers other.registers) (shifted one.memories other.memories)) (driver_at design.circuit s)
   driver-too s makes = pair.copy.driver s (made-held s makes) (no-input s makes)
 
   pub register-too : (s r : ℕ) (any : Register) → Makes design.circuit design.tree listed (cut_wires design listed) (unit_number u) s → driver_at design.circuit s ≡ Held r
       → (shifted one.registers other.registers r < length design.circuit.registers)
-      × (unclocked_register (slice_index_or design.circuit.registers (shifted one.registers other.registers r) any) ≡ unclocked_register (moved_register (shifted one.signals other.signals) (slice_index_or design.circuit.registers r any)))
+      × (unclocked_register (slice_index_or design.circuit.registers (shifted one.registers other.registers r) any) ≡ unclocked_register (renamed_register (signals_by (shifted one.signals other.signals)) (slice_index_or design.circuit.registers r any)))
   register-too s r any makes held =
-      let moves = moved_driver (shifted one.signals other.signals) (shifted one.registers other.registers) (shifted one.memories other.memories) in
+      let moves = renamed_driver (numbers_by (shifted one.signals other.signals) (shifted one.registers other.registers) (shifted one.memories other.memories)) in
       let driven : driver_at design.circuit (shifted one.signals other.signals s) ≡ Held (shifted one.registers other.registers r) = driver-too s makes ∙ ap moves held in
       let may = subst (MayDrive design.circuit (shifted one.signals other.signals s)) driven (pair.meant.formed.drivers (shifted one.signals other.signals s) (known-too s (made-held s makes))) in
       (may.0, pair.copy.register s r any (made-held s makes) (no-input s makes) held)

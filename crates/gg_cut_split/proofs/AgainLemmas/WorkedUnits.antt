@@ -13,13 +13,14 @@ use Rattle.gg_flat.specs.Circuit.{driver_at}
 use Rattle.gg_flat_tree.specs.Tree.{InstanceTree}
 use Rattle.gg_flat.proofs.WorkedCircuits.{eight, node}
 use Rattle.gg_flat.proofs.WorkedMemories.{signal, copy}
-use Rattle.gg_part.specs.Moved.{moved_driver, shifted}
+use Rattle.gg_part.specs.Moved.{shifted}
 use Rattle.gg_order.specs.Design.{Ordered}
 use Rattle.gg_cut_plan.specs.declared.listed.Listed.{Listed}
 use Rattle.gg_cut_plan.specs.Plan.{channels_to, channels_from, signals_of, givens_of}
 use Rattle.gg_cut_plan.proofs.WorkedCells as cells
 use Rattle.gg_cut_plan.proofs.WorkedPair as two
 use Rattle.gg_cut_split.specs.again.Again.{IsUnitAgain, again_at, cut_wires}
+use Rattle.gg_flat.specs.Renaming.{numbers_by, renamed_driver}
 
 abbrev tree : InstanceTree
 tree =
@@ -72,7 +73,7 @@ taken = refl
 given : givens_of (cut_wires design listed) (channels_from (cut_wires design listed) 2) ≡ map (again_at design listed 1 2) (givens_of (cut_wires design listed) (channels_from (cut_wires design listed) 1))
 given = refl
 
-driven : driver_at design.circuit 6 ≡ moved_driver (again_at design listed 1 2) (shifted 0 0) (shifted 0 0) (driver_at design.circuit 4)
+driven : driver_at design.circuit 6 ≡ renamed_driver (numbers_by (again_at design listed 1 2) (shifted 0 0) (shifted 0 0)) (driver_at design.circuit 4)
 driven = refl
 
 -- ---- what is not

@@ -10,13 +10,14 @@ use Rattle.gg_flat.specs.Circuit.{signal_shapes, driver_at}
 use Rattle.gg_flat.specs.Line.{shape_at, value_at}
 use Rattle.gg_flat_tree.specs.Tree.{InstanceTree, instance_at}
 use Rattle.gg_part.specs.Domains.{FollowsInside, ports_inside}
-use Rattle.gg_part.specs.Moved.{moved_driver, moved_register, moved_memory, shifted, unclocked_register, unclocked_memory}
+use Rattle.gg_part.specs.Moved.{shifted, unclocked_register, unclocked_memory}
 use Rattle.gg_order.specs.Design.{Ordered}
 use Rattle.gg_cut_plan.specs.declared.listed.Listed.{Listed}
 use Rattle.gg_cut_plan.specs.declared.wires.Wire.{Wire}
 use Rattle.gg_cut_plan.specs.Channels.{wires_of}
 use Rattle.gg_cut_plan.specs.Machines.{first_unit, first_memory}
 use Rattle.gg_cut_plan.specs.Plan.{channels_to, channels_from, givens_of, signals_of, Makes, Takes, HasMemory, machine_clocks}
+use Rattle.gg_flat.specs.Renaming.{numbers_by, renamed_driver, renamed_memory, renamed_register, signals_by}
 
 -- the first signal of the instance that is machine m
 abbrev pub unit_first : InstanceTree → Listed → ℕ → ℕ
@@ -54,15 +55,15 @@ pub record IsUnitAgain (design : Ordered) (listed : Listed) (m n : ℕ) : Type 0
       → Contains (givens_of (cut_wires design listed) (channels_from (cut_wires design listed) m)) s ↔ Contains (givens_of (cut_wires design listed) (channels_from (cut_wires design listed) n)) (again_at design listed m n s)
   pub shape : (s : ℕ) → HasSignal design listed m s → shape_at (signal_shapes design.circuit) (again_at design listed m n s) ≡ shape_at (signal_shapes design.circuit) s
   pub driver : (s : ℕ) → Makes design.circuit design.tree listed (cut_wires design listed) m s
-      → driver_at design.circuit (again_at design listed m n s) ≡ moved_driver (again_at design listed m n) registers memories (driver_at design.circuit s)
+      → driver_at design.circuit (again_at design listed m n s) ≡ renamed_driver (numbers_by (again_at design listed m n) registers memories) (driver_at design.circuit s)
   pub register : (s r : ℕ) (any : Register) → Makes design.circuit design.tree listed (cut_wires design listed) m s → driver_at design.circuit s ≡ Held r
       → (registers r < length design.circuit.registers)
-      × (unclocked_register (slice_index_or design.circuit.registers (registers r) any) ≡ unclocked_register (moved_register (again_at design listed m n) (slice_index_or design.circuit.registers r any)))
+      × (unclocked_register (slice_index_or design.circuit.registers (registers r) any) ≡ unclocked_register (renamed_register (signals_by (again_at design listed m n)) (slice_index_or design.circuit.registers r any)))
   pub banks : (own other : List ℕ) → AllPairs (λ a b. a < b) own → AllPairs (λ a b. a < b) other
       → ((k : ℕ) → Contains own k ↔ HasMemory design.tree listed m k) → ((k : ℕ) → Contains other k ↔ HasMemory design.tree listed n k) → other ≡ map memories own
   pub memory : (k : ℕ) (any : Memory) → HasMemory design.tree listed m k
       → (memories k < length design.circuit.memories)
-      × (unclocked_memory (slice_index_or design.circuit.memories (memories k) any) ≡ unclocked_memory (moved_memory (again_at design listed m n) (slice_index_or design.circuit.memories k any)))
+      × (unclocked_memory (slice_index_or design.circuit.memories (memories k) any) ≡ unclocked_memory (renamed_memory (signals_by (again_at design listed m n)) (slice_index_or design.circuit.memories k any)))
   pub register_clock : (is_home : ℕ → Bool) (s r : ℕ) (clock : Option ℕ) → AreHomes listed is_home → Makes design.circuit design.tree listed (cut_wires design listed) m s → driver_at design.circuit s ≡ Held r
       → FollowsInside is_home design.tree s r clock → FollowsInside is_home design.tree (again_at design listed m n s) (registers r) clock
   pub memory_clocks : (is_home : ℕ → Bool) (k : ℕ) → AreHomes listed is_home → HasMemory design.tree listed m k → ports_inside is_home design.tree (memories k) ≡ ports_inside is_home design.tree k

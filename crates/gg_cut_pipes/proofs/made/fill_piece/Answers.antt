@@ -3,11 +3,11 @@ use Rattle.std.specs.Prelude.{AllPairs}
 use Rattle.gg_flat.specs.Circuit.{FlatCircuit}
 use Rattle.gg_flat_tree.specs.Tree.{path_at}
 use Rattle.gg_flat.specs.Line.{value_at}
-use Rattle.gg_cut_reference.specs.Reference.{register_by, memory_by}
 use Rattle.gg_cut_reference.specs.Made.{seen_signal, pipe_signals, pipe_registers}
 use Rattle.gg_bits.specs.Lists.{by_number}
 use Rattle.gg_cut_pipes.specs.Tables.{seen_in, kept_in, views_by}
 use Rattle.gg_cut_reference.proofs.MadeLemmas.{length-by}
+use Rattle.gg_flat.specs.Renaming.{renamed_memory, renamed_register, signals_by}
 use Rattle.gg_cut_pipes.proofs.made.fill_piece.Goals as goal
 
 pub add_pipes-requires-clause-count : goal.add_pipes-requires-clause-count
@@ -29,11 +29,11 @@ returns c =
     (c.in_ok-add_ins.ensures
     ∙ ap₂ (λ (p : FlatCircuit) (l : List ℕ). let d : FlatCircuit = record p { ins = p.ins ++ l } in d)
     (c.in_ok-add_memories.ensures
-    ∙ ap (λ (p : FlatCircuit). let d : FlatCircuit = record p { memories = p.memories ++ by_number (λ m memory. memory_by (seen_in tables (value_at tables.keepers m)) memory) 0 one.memories } in d)
+    ∙ ap (λ (p : FlatCircuit). let d : FlatCircuit = record p { memories = p.memories ++ by_number (λ m memory. renamed_memory (signals_by (seen_in tables (value_at tables.keepers m))) memory) 0 one.memories } in d)
     (c.in_ok-add_pipe_registers.ensures
     ∙ ap (λ (p : FlatCircuit). let d : FlatCircuit = record p { registers = p.registers ++ pipe_registers one.signals pipes } in d)
     (c.in_ok-add_registers.ensures
-    ∙ ap (λ (p : FlatCircuit). let d : FlatCircuit = record p { registers = p.registers ++ by_number (λ r register. register_by (seen_in tables (value_at tables.holders r)) register) 0 one.registers } in d)
+    ∙ ap (λ (p : FlatCircuit). let d : FlatCircuit = record p { registers = p.registers ++ by_number (λ r register. renamed_register (signals_by (seen_in tables (value_at tables.holders r))) register) 0 one.registers } in d)
     (c.in_ok-add_pipes.ensures
     ∙ ap (λ (p : FlatCircuit). let d : FlatCircuit = record p { paths = p.paths ++ map (λ s. codes "pipe:" ++ path_at one.paths s) pipes; signals = p.signals ++ pipe_signals one.signals (length one.registers) pipes } in d)
     c.in_ok-add_signals.ensures))))

@@ -4,7 +4,7 @@ use Rattle.gg_flat.specs.declared.memory.Memory.{Memory}
 use Rattle.gg_flat.specs.WellFormed.{IsClockedMemory}
 use Rattle.gg_flat_tree.specs.Scoped.{memory_fields}
 use Rattle.gg_part.specs.Clocking.{LeadsTo, PortsFollow, clocks_of_ports}
-use Rattle.gg_part.specs.Part.{renamed_memory, MemoryBelow}
+use Rattle.gg_part.specs.Part.{MemoryBelow, in_whole}
 use Rattle.gg_part.proofs.BackLemmas.{LeadsBack, table-back}
 use Rattle.gg_part.proofs.LocalLemmas.{memory-renamed, memory-below, memory-clocked, memory-follows}
 use Rattle.gg_part.proofs.ClockLemmas.{leads-same}
@@ -13,6 +13,7 @@ use Rattle.gg_flat.specs.Line.{value_at}
 use Rattle.gg_flat.specs.Circuit.{FlatCircuit}
 use Rattle.gg_part.proofs.BuildLemmas.{AreMemories-more, wants-more, only-memories, read-any}
 use Rattle.gg_part.proofs.FrameLemmas.{reader-fields, writer-fields}
+use Rattle.gg_flat.specs.Renaming.{renamed_memory}
 use Rattle.gg_part.proofs.build.add_memories.Goals as goal
 
 pub loop-number-preserved : goal.loop-number-preserved
@@ -45,7 +46,7 @@ loop-number-preserved c =
     record {
       only = only-memories c.args.piece.now old new (old.memories ++ own ∷ []) c.in_ok-add_memory.ensures.ok c.loop-number.invariant.only;
       memories = AreMemories-more whole globals numbers frame.clocks k old.memories new.memories own item c.loop-number.invariant.memories (ap (λ (c : FlatCircuit). c.memories) c.in_ok-add_memory.ensures.ok)
-          (subst (λ x. renamed_memory globals frame.clocks x ≡ item) is (memory-renamed globals back leads_back frame.clocks ports item reads writes led))
+          (subst (λ x. renamed_memory (in_whole globals frame.clocks) x ≡ item) is (memory-renamed globals back leads_back frame.clocks ports item reads writes led))
           (subst (MemoryBelow (length globals)) is (memory-below globals back leads_back frame.clocks ports item reads writes led))
           (subst (IsClockedMemory (length frame.clocks)) is (memory-clocked globals back leads_back frame.clocks ports item reads writes led)) (read-any whole.memories (value_at numbers k) item within read);
       own = wants-more (λ m memory. PortsFollow (get_or c.args.clocking.now.ports (value_at numbers m) []) memory) old.memories new.memories k own c.loop-number.invariant.memories.counted (ap (λ (c : FlatCircuit). c.memories) c.in_ok-add_memory.ensures.ok)

@@ -3,9 +3,8 @@ use Rattle.std.specs.Prelude.{Contains, Option}
 use Rattle.gg_flat.specs.declared.piece.Register.{Register}
 use Rattle.gg_flat.specs.WellFormed.{IsClock}
 use Rattle.gg_flat.specs.Named.{RegisterNamesOnly}
-use Rattle.gg_flat.specs.Renaming as renaming
 use Rattle.gg_part.specs.Local.{own_by}
-use Rattle.gg_part.specs.Part.{renamed_register, RegisterBelow}
+use Rattle.gg_part.specs.Part.{RegisterBelow, in_whole}
 use Rattle.gg_part.proofs.BackLemmas.{LeadsBack, table-back, register-back, register-below}
 use Rattle.gg_part.proofs.ClockLemmas.{leads-same}
 use Rattle.std.proofs.lemmas.List.Elements.{Contains-get_or}
@@ -14,6 +13,7 @@ use Rattle.gg_flat.specs.Line.{value_at}
 use Rattle.gg_flat.specs.Circuit.{FlatCircuit}
 use Rattle.gg_part.proofs.BuildLemmas.{AreRegisters-more, follows-more, only-registers, read-any}
 use Rattle.gg_part.proofs.FrameLemmas.{register-closed, held-within}
+use Rattle.gg_flat.specs.Renaming.{renamed_register}
 use Rattle.gg_part.proofs.build.add_registers.Goals as goal
 
 pub bounds-registers-number : goal.bounds-registers-number
@@ -49,13 +49,13 @@ loop-number-preserved c =
     let read : item ≡ get_or whole.registers (value_at held k) item = sym at ∙ ap (λ n. get_or whole.registers n item) (sym same) in
     let closed : RegisterNamesOnly (Contains globals) item = λ t named. register-closed whole globals frame.ins held frame.memories c.requires.chosen c.requires.held r t item listed found named in
     let leads = leads-same {clocks = frame.clocks} refl (ap (λ (x : Register). x.clock) at) refl (c.requires.timed.register r item (c.requires.held.sound r listed)) in
-    let is : own ≡ renaming.renamed_register (own_by back clock) item =
+    let is : own ≡ renamed_register (own_by back clock) item =
     c.in_ok-own.ensures
-    ∙ ap₂ (λ (signals : List ℕ) (clock : Option ℕ). renaming.renamed_register (own_by (value_at signals) clock) item) c.at_port-port.ensures.signals (c.at_port-port.ensures.clock ∙ ap (λ (l : List (Option ℕ)). get_or l r None) c.as_slice.ensures) in
+    ∙ ap₂ (λ (signals : List ℕ) (clock : Option ℕ). renamed_register (own_by (value_at signals) clock) item) c.at_port-port.ensures.signals (c.at_port-port.ensures.clock ∙ ap (λ (l : List (Option ℕ)). get_or l r None) c.as_slice.ensures) in
     record {
       only = only-registers c.args.piece.now old new (old.registers ++ own ∷ []) c.in_ok-add_register.ensures.ok c.loop-number.invariant.only;
       registers = AreRegisters-more whole globals held frame.clocks k old.registers new.registers own item c.loop-number.invariant.registers (ap (λ (c : FlatCircuit). c.registers) c.in_ok-add_register.ensures.ok)
-          (ap (renamed_register globals frame.clocks) is ∙ register-back globals back leads_back frame.clocks clock item closed leads.leads)
+          (ap (renamed_register (in_whole globals frame.clocks)) is ∙ register-back globals back leads_back frame.clocks clock item closed leads.leads)
           (subst (RegisterBelow (length globals)) (sym is) (register-below globals back leads_back clock item closed))
           (subst (λ (x : Register). IsClock (length frame.clocks) x.clock) (sym is) leads.known) (read-any whole.registers (value_at held k) item known read);
       own = follows-more (λ (x : Register). x.clock) (λ r. get_or c.args.clocking.now.registers (value_at held r) None) old.registers new.registers k own c.loop-number.invariant.registers.counted (ap (λ (c : FlatCircuit). c.registers) c.in_ok-add_register.ensures.ok)
