@@ -16,7 +16,7 @@ use Rattle.gg_net.specs.Step.{Ready, Step, machine_of}
 use Rattle.gg_net.proofs.StepLemmas.{kept-step}
 use Rattle.gg_net.proofs.TableLemmas.{latch-can, fire-can, serve-can, finish-can}
 use Rattle.gg_net.proofs.ProgressLemmas.{goes-on}
-use Rattle.gg_net.specs.markings.Marking.{Layout, Marking, turns_at, puts, takes, refusal, after}
+use Rattle.gg_net.specs.markings.Marking.{Layout, Marking, turns_at, marked_puts, marked_takes, marked_refusal, after}
 use Rattle.gg_net.specs.markings.Fits.{HasLayout, marking_of}
 use Rattle.gg_net.proofs.MarkingsLemmas.CountLemmas.{cycle-at, puts-are, takes-are}
 use Rattle.gg_net.proofs.MarkingsLemmas.GoesLemmas.{ready-free, step-marks, step-frame}
@@ -194,7 +194,7 @@ module _ (flow : Flow) (cycle : ℕ) where
     allowed : IsAllowed layout (counts_of layout (marking_of a))
     allowed = allowed-of flow a kept layout (laid-out flow a kept)
 
-    none : refusal layout (marking_of a) event ≡ None
+    none : marked_refusal layout (marking_of a) event ≡ None
     none = ready-free flow a kept layout (laid-out flow a kept) event step.step.ready
 
     raises : Raises layout (counts_of layout (marking_of a)) event (counts_of layout (after layout (marking_of a) event))
@@ -216,14 +216,14 @@ module _ (flow : Flow) (cycle : ℕ) where
     finish-low (Serve k p) is lt m = omega arith
     finish-low (Finish k) is lt m = elim (one-cases k m) [ inl here ↦ omega (arith, here.1, lt, ap (value_at (marking_of a).cycles) here.0) | inr other ↦ omega (arith, other.1) ]
 
-    put-low : (e : Event) → Free layout (counts_of layout (marking_of a)) e → value_at (marking_of a).cycles (machine_by layout e) < cycle → (c : ℕ) → puts layout (marking_of a) c + fires e c ≤ max cycle (puts layout (marking_of a) c)
+    put-low : (e : Event) → Free layout (counts_of layout (marking_of a)) e → value_at (marking_of a).cycles (machine_by layout e) < cycle → (c : ℕ) → marked_puts layout (marking_of a) c + fires e c ≤ max cycle (marked_puts layout (marking_of a) c)
     put-low (Latch d) is lt c = omega arith
-    put-low (Fire d) is lt c = elim (one-cases d c) [ inl here ↦ omega (arith, here.1, lt, is.clear, ap (puts layout (marking_of a)) here.0) | inr other ↦ omega (arith, other.1) ]
+    put-low (Fire d) is lt c = elim (one-cases d c) [ inl here ↦ omega (arith, here.1, lt, is.clear, ap (marked_puts layout (marking_of a)) here.0) | inr other ↦ omega (arith, other.1) ]
     put-low (Serve k p) is lt c = omega arith
     put-low (Finish k) is lt c = omega arith
 
-    take-low : (e : Event) → Free layout (counts_of layout (marking_of a)) e → value_at (marking_of a).cycles (machine_by layout e) < cycle → (c : ℕ) → takes layout (marking_of a) c + latches e c ≤ max cycle (takes layout (marking_of a) c)
-    take-low (Latch d) is lt c = elim (one-cases d c) [ inl here ↦ omega (arith, here.1, lt, is.clear, ap (takes layout (marking_of a)) here.0) | inr other ↦ omega (arith, other.1) ]
+    take-low : (e : Event) → Free layout (counts_of layout (marking_of a)) e → value_at (marking_of a).cycles (machine_by layout e) < cycle → (c : ℕ) → marked_takes layout (marking_of a) c + latches e c ≤ max cycle (marked_takes layout (marking_of a) c)
+    take-low (Latch d) is lt c = elim (one-cases d c) [ inl here ↦ omega (arith, here.1, lt, is.clear, ap (marked_takes layout (marking_of a)) here.0) | inr other ↦ omega (arith, other.1) ]
     take-low (Fire d) is lt c = omega arith
     take-low (Serve k p) is lt c = omega arith
     take-low (Finish k) is lt c = omega arith
@@ -252,9 +252,9 @@ module _ (flow : Flow) (cycle : ℕ) where
         record {
           cycles = λ m known. omega (arith, cycle-at b m, cycle-at a m, ap (λ (x : Marking). value_at x.cycles m) next, raises.cycles m (omega (arith, known, (laid-out flow a kept).machines, length-map a.machines kind_of)), finish-low event free below m);
           puts = λ c known.
-              omega (arith, puts-are a layout (laid-out flow a kept) c known, puts-are b layout by_b c (omega (arith, known, ap length wires-same)), ap (λ (x : Marking). puts layout x c) next, raises.puts c (omega (arith, known, (laid-out flow a kept).channels)), put-low event free below c);
+              omega (arith, puts-are a layout (laid-out flow a kept) c known, puts-are b layout by_b c (omega (arith, known, ap length wires-same)), ap (λ (x : Marking). marked_puts layout x c) next, raises.puts c (omega (arith, known, (laid-out flow a kept).channels)), put-low event free below c);
           takes = λ c known.
-              omega (arith, takes-are a layout (laid-out flow a kept) c known, takes-are b layout by_b c (omega (arith, known, ap length wires-same)), ap (λ (x : Marking). takes layout x c) next, raises.takes c (omega (arith, known, (laid-out flow a kept).channels)), take-low event free below c);
+              omega (arith, takes-are a layout (laid-out flow a kept) c known, takes-are b layout by_b c (omega (arith, known, ap length wires-same)), ap (λ (x : Marking). marked_takes layout x c) next, raises.takes c (omega (arith, known, (laid-out flow a kept).channels)), take-low event free below c);
           serves = λ m known.
               let in_layout : m < length layout.turns = omega (arith, known, (laid-out flow a kept).machines, length-map a.machines kind_of) in
               omega (

@@ -9,7 +9,7 @@ use Rattle.gg_net.specs.Step.{Step}
 use Rattle.gg_net.proofs.StepLemmas.{kept-step}
 use Rattle.gg_net.proofs.GoesLemmas.{goes}
 use Rattle.gg_net.proofs.CountLemmas.{counted-once}
-use Rattle.gg_net.specs.markings.Marking.{Layout, Marking, puts, takes}
+use Rattle.gg_net.specs.markings.Marking.{Layout, Marking, marked_puts, marked_takes}
 use Rattle.gg_net.specs.markings.Fits.{HasLayout, marking_of}
 use Rattle.gg_net.specs.markings.Steps.{Steps}
 use Rattle.gg_net.proofs.MarkingsLemmas.CountLemmas.{cycle-at, served-at, puts-are, takes-are}
@@ -41,8 +41,8 @@ same-counts a b layout frames a_has b_has marks =
     record {
       cycles = λ m known. sym (cycle-at a m) ∙ ap (λ (k : Marking). value_at k.cycles m) marks ∙ cycle-at b m;
       served = λ m known. sym (served-at a m) ∙ ap (λ (k : Marking). value_at k.served m) marks ∙ served-at b m;
-      puts = λ c known. puts-are a layout a_has c known ∙ ap (λ (k : Marking). puts layout k c) marks ∙ sym (puts-are b layout b_has c (omega (arith, known, ap (λ (f : Frame). length f.wires) frames)));
-      takes = λ c known. takes-are a layout a_has c known ∙ ap (λ (k : Marking). takes layout k c) marks ∙ sym (takes-are b layout b_has c (omega (arith, known, ap (λ (f : Frame). length f.wires) frames)));
+      puts = λ c known. puts-are a layout a_has c known ∙ ap (λ (k : Marking). marked_puts layout k c) marks ∙ sym (puts-are b layout b_has c (omega (arith, known, ap (λ (f : Frame). length f.wires) frames)));
+      takes = λ c known. takes-are a layout a_has c known ∙ ap (λ (k : Marking). marked_takes layout k c) marks ∙ sym (takes-are b layout b_has c (omega (arith, known, ap (λ (f : Frame). length f.wires) frames)));
     }
 
 pub steps-up : (flow : Flow) (old goal : Network) (layout : Layout) → Kept flow old → Kept flow goal → frame_of goal ≡ frame_of old → HasLayout (frame_of old) layout

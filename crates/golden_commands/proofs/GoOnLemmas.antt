@@ -26,7 +26,7 @@ use Rattle.gg_net.specs.declared.event.StepRefusal.TheVariants.{Stranger}
 use Rattle.gg_net.specs.markings.Goes.{after_step, replayed_from, step_refusal}
 use Rattle.gg_net.specs.Refusal.{unless}
 use Rattle.gg_bits.specs.Lists.{or_else}
-use Rattle.gg_net.specs.markings.Marking.{Layout, Marking, opening_marking, refusal}
+use Rattle.gg_net.specs.markings.Marking.{Layout, Marking, opening_marking, marked_refusal}
 use Rattle.gg_net.specs.markings.Marking as marks
 use Rattle.gg_net.specs.markings.Counts.{CanRun, IsAllowed, IsMarkingOf, counts_of}
 use Rattle.gg_net.specs.markings.Measure.{all_dues, left}
@@ -53,8 +53,8 @@ first-holds false cause rest e = absurd (cc)
 
 -- the last of some steps that are done may be done somewhere
 last-free : (layout : Layout) (k : ℕ) (old : Marking) (events : List (Option Event)) (event : Event) (new : Marking) → replayed_from layout k old (events ++ Some event ∷ []) ≡ Ok new
-    → (marking : Marking) × (refusal layout marking event ≡ None)
-last-free layout k old [] event new is = (old, (goes-past k (refusal layout old event) _ new is).0)
+    → (marking : Marking) × (marked_refusal layout marking event ≡ None)
+last-free layout k old [] event new is = (old, (goes-past k (marked_refusal layout old event) _ new is).0)
 last-free layout k old (x ∷ events) event new is =
     last-free layout (suc k) (after_step layout old x) events event new (goes-past k (step_refusal layout old x) (replayed_from layout (suc k) (after_step layout old x) (events ++ Some event ∷ [])) new is).1
 
@@ -117,7 +117,7 @@ module _ (design : Ordered) (request : Request) (models : Models) (default n : �
           (omega (arith, le, length-map-range_with_len (machine_ports design.circuit design.tree listed) 0 count)) in
           absurd (omega (arith, below, past))
 
-  free-named : (marking : Marking) (event : Event) → refusal layout marking event ≡ None → HasNames naming event
+  free-named : (marking : Marking) (event : Event) → marked_refusal layout marking event ≡ None → HasNames naming event
   free-named marking (Latch c) e = channel-named c (first-holds (nat_lt c (length layout.links)) Stranger _ e)
   free-named marking (Fire c) e = channel-named c (first-holds (nat_lt c (length layout.links)) Stranger _ e)
   free-named marking (Serve m p) e = port-named m p (first-holds (nat_lt p (marks.port_count layout m)) Stranger _ e)

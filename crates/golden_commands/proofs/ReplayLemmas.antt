@@ -34,7 +34,7 @@ use Rattle.gg_net.specs.Network.{Frame, Network, frame_of}
 use Rattle.gg_net.specs.Network as network
 use Rattle.gg_net.specs.markings.Fits.{HasLayout, marking_of}
 use Rattle.gg_net.specs.markings.Goes.{Stopped, replayed_from}
-use Rattle.gg_net.specs.markings.Marking.{Layout, opening_marking, entered, puts, takes}
+use Rattle.gg_net.specs.markings.Marking.{Layout, opening_marking, marked_entered, marked_puts, marked_takes}
 use Rattle.gg_net.specs.markings.Steps.{Steps, StopsAt}
 use Rattle.gg_net.proofs.MarkingsLemmas.CountLemmas.{puts-are, entered-are, takes-are}
 use Rattle.gg_net.proofs.MarkingsLemmas.OpeningLemmas.{opens-so}
@@ -135,9 +135,9 @@ module _ (design : Ordered) (request : Request) (models : Models) (default : ℕ
         let wide = (shape_at (signal_shapes design.circuit) w.signal).width in
         let named : name_in plan c ≡ name = get_or-map (λ (channel : Channel). channel.name) plan.channels c any [] lt ∙ at.name in
         let width : width_in plan c ≡ wide = get_or-map (λ (channel : Channel). channel.ty.width) plan.channels c any 0 lt ∙ ap (λ (z : Shape). z.width) at.type in
-        let put : network.puts net c ≡ puts layout (marking_of net) c = puts-are net layout has c known in
-        let have : network.entered net c ≡ entered layout (marking_of net) c = entered-are net layout has c known in
-        let took : network.takes net c ≡ takes layout (marking_of net) c = takes-are net layout has c known in
+        let put : network.puts net c ≡ marked_puts layout (marking_of net) c = puts-are net layout has c known in
+        let have : network.entered net c ≡ marked_entered layout (marking_of net) c = entered-are net layout has c known in
+        let took : network.takes net c ≡ marked_takes layout (marking_of net) c = takes-are net layout has c known in
         let token = plan_token design request start.state in
         let carried : list_at flow.lists c ≡ stream 0 0 (is_piped design.circuit request w.signal) (column rows w.signal) =
         stream-at 0 token plan.channels rows c any lt
@@ -146,9 +146,9 @@ module _ (design : Ordered) (request : Request) (models : Models) (default : ℕ
         ap (λ x. channel_line x (width_in plan c) (network.puts net c) (network.takes net c) (take (network.entered net c) (list_at flow.lists c))) named
         ∙ ap (λ x. channel_line name x (network.puts net c) (network.takes net c) (take (network.entered net c) (list_at flow.lists c))) width
         ∙ ap (λ x. channel_line name wide x (network.takes net c) (take (network.entered net c) (list_at flow.lists c))) put
-        ∙ ap (λ x. channel_line name wide (puts layout (marking_of net) c) x (take (network.entered net c) (list_at flow.lists c))) took
-        ∙ ap (λ x. channel_line name wide (puts layout (marking_of net) c) (takes layout (marking_of net) c) (take x (list_at flow.lists c))) have
-        ∙ ap (λ x. channel_line name wide (puts layout (marking_of net) c) (takes layout (marking_of net) c) (take (entered layout (marking_of net) c) x)) carried
+        ∙ ap (λ x. channel_line name wide (marked_puts layout (marking_of net) c) x (take (network.entered net c) (list_at flow.lists c))) took
+        ∙ ap (λ x. channel_line name wide (marked_puts layout (marking_of net) c) (marked_takes layout (marking_of net) c) (take x (list_at flow.lists c))) have
+        ∙ ap (λ x. channel_line name wide (marked_puts layout (marking_of net) c) (marked_takes layout (marking_of net) c) (take (marked_entered layout (marking_of net) c) x)) carried
 
     pub text-is : net_text plan flow net ≡ replay_text the_setting (marking_of net)
     text-is =

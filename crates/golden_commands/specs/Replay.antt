@@ -20,7 +20,7 @@ use Rattle.gg_cut_plan.specs.declared.listed.Listed.{Listed}
 use Rattle.gg_cut_plan.specs.declared.wires.Wire.{Wire}
 use Rattle.gg_cut_reference.specs.text.CheckText.{channel_name}
 use Rattle.gg_net.specs.declared.event.Event.{Event}
-use Rattle.gg_net.specs.markings.Marking.{Layout, Marking, opening_marking, entered, puts, takes}
+use Rattle.gg_net.specs.markings.Marking.{Layout, Marking, opening_marking, marked_entered, marked_puts, marked_takes}
 use Rattle.gg_net.specs.markings.Goes.{Stopped, replayed_from}
 use Rattle.gg_net.specs.markings.Measure.{all_dues}
 use Rattle.gg_build.specs.plan.CutLayout.{IsLayoutOf}
@@ -133,8 +133,8 @@ GoesOnUntilAll known circuit partition trace capacity steps =
 abbrev pub channel_told : Setting → Marking → List Wire → ℕ → List ℕ
 channel_told setting marking wires c =
     channel_line (channel_name setting.design.circuit wires c) (shape_at (signal_shapes setting.design.circuit) (wire_at wires c).signal).width
-    (puts setting.layout marking c) (takes setting.layout marking c)
-    (take (entered setting.layout marking c) (stream 0 0 (is_piped setting.design.circuit setting.request (wire_at wires c).signal) (column setting.rows (wire_at wires c).signal)))
+    (marked_puts setting.layout marking c) (marked_takes setting.layout marking c)
+    (take (marked_entered setting.layout marking c) (stream 0 0 (is_piped setting.design.circuit setting.request (wire_at wires c).signal) (column setting.rows (wire_at wires c).signal)))
 
 -- the lines of all channels
 abbrev pub lines_told : Setting → Marking → List Wire → List ℕ

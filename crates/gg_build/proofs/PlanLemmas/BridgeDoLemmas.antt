@@ -25,7 +25,7 @@ use Rattle.gg_cut_reference.specs.Made.{plan_reference}
 use Rattle.gg_cut_reference.proofs.PipeLemmas.{since-less}
 use Rattle.gg_bridge.specs.Turned.{turned}
 use Rattle.gg_bridge.specs.Hosted.{started_bridge}
-use Rattle.gg_cut_reference.specs.whole.Whole.{CanBridge, RunsModel, RunsWhole, driven_signal, model_signals, reference_rows, seen_signal}
+use Rattle.gg_cut_reference.specs.whole.Whole.{CanBridge, RunsModel, RunsWhole, driven_signal, model_signals, reference_rows, bridge_signal}
 use Rattle.gg_node.specs.Machine.{Machine, needs_at}
 use Rattle.gg_net.specs.Network.{kind_of}
 use Rattle.gg_net.proofs.StateLemmas.{column-at}
@@ -61,7 +61,7 @@ module _ (design : Ordered) (request : Request) (models : Models) (can : CanBrid
 
   -- what it sees, by cycle
   abbrev pub seen_columns : List (List ℕ)
-  seen_columns = map (λ name. column rows (seen_signal design request name)) (entry design request models can m bridge first body).sees
+  seen_columns = map (λ name. column rows (bridge_signal design request name)) (entry design request models can m bridge first body).sees
 
   runs-model : RunsModel design request models start n rows k (entry design request models can m bridge first body)
   runs-model = runs.each k body.known
@@ -84,8 +84,8 @@ module _ (design : Ordered) (request : Request) (models : Models) (can : CanBrid
       let port = takes-port design request models can m bridge first body c h in
       let names = (entry design request models can m bridge first body).sees in
       let place = seen_place design request models can m bridge first body c in
-      get_or-map (λ name. column rows (seen_signal design request name)) names place [] [] at.among
-      ∙ ap (λ name. column rows (seen_signal design request name)) at.name
+      get_or-map (λ name. column rows (bridge_signal design request name)) names place [] [] at.among
+      ∙ ap (λ name. column rows (bridge_signal design request name)) at.name
       ∙ ap (λ s. column rows (taken_as hub s)) (path-back design request models can m bridge first body (link_at base c).signal port.signal)
 
   seen-value : (c t : ℕ) → Contains (channels_to links m) c → start.cycle ≤ t → t < n → value_at (row_at own t) (value_at model.ins (seen_place design request models can m bridge first body c)) ≡ value_at (row_at (reference_rows design request rows) t) (taken_as hub (link_at links c).signal)
@@ -95,7 +95,7 @@ module _ (design : Ordered) (request : Request) (models : Models) (can : CanBrid
       let place = seen_place design request models can m bridge first body c in
       let u = since start.cycle t in
       let s = taken_as hub (link_at base c).signal in
-      let there : place < length seen_columns = omega (arith, at.among, length-map (entry design request models can m bridge first body).sees (λ name. column rows (seen_signal design request name))) in
+      let there : place < length seen_columns = omega (arith, at.among, length-map (entry design request models can m bridge first body).sees (λ name. column rows (bridge_signal design request name))) in
       ap (λ (row : List ℕ). value_at row (value_at model.ins place)) (sym (row-dropped start.cycle t own le))
       ∙ input-row model (model_start model start) seen_columns (since start.cycle n) (drop start.cycle own) (bridge-model design request models can m bridge first body).formed model-run.run place u at.place (since-less start.cycle t n le lt)
       ∙ get_or-map (λ (l : List ℕ). value_at l (later start.cycle u)) seen_columns place [] 0 there

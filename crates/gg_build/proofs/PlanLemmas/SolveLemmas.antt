@@ -38,7 +38,7 @@ use Rattle.gg_cut_reference.specs.Follows.{given_column, plan_token, taken_colum
 use Rattle.gg_cut_reference.proofs.FollowLemmas.{column-before}
 use Rattle.gg_cut_reference.proofs.MachineLemmas.{map-agree}
 use Rattle.gg_cut_reference.proofs.PlanLemmas.{rows-follow, rows-given, rows-taken, plan-kept}
-use Rattle.gg_cut_reference.specs.whole.Whole.{CanBridge, RunsWhole, plan_circuit, reference_rows, seen_signal}
+use Rattle.gg_cut_reference.specs.whole.Whole.{CanBridge, RunsWhole, plan_circuit, reference_rows, bridge_signal}
 use Rattle.gg_cut_reference.proofs.FittingLemmas.LowLemmas.{wire-signal}
 use Rattle.gg_build.specs.plan.Built.{IsGiven, place_in}
 use Rattle.gg_build.proofs.PlanLemmas.BridgeLemmas.{bridge-model, bridge-ports, driven_place, entry, gives-port, see-count, seen_place}
@@ -230,7 +230,7 @@ module _ (design : Ordered) (request : Request) (models : Models) (default : ℕ
         let ports = bridge-ports design request models can m bridge first body in
         let long = length-map (range_with_len 0 (length places)) pick in
         let range = length-range_with_len 0 (length places) in
-        let seen = length-map (entry design request models can m bridge first body).sees (λ name. column rows (seen_signal design request name)) in
+        let seen = length-map (entry design request models can m bridge first body).sees (λ name. column rows (bridge_signal design request name)) in
         let total : length places ≡ length model.ins = ports.takes.total in
         ext_get_or [] (map pick (range_with_len 0 (length places))) sees (omega (arith, long, range, seen, total, see-count design request models can m bridge first body))
         (λ p lt.

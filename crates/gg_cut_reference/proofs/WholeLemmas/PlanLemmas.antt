@@ -33,7 +33,7 @@ use Rattle.gg_cut_reference.specs.Made.{holder_of, keeper_of, plan_reference, vi
 use Rattle.gg_cut_reference.specs.Reference.{IsReference}
 use Rattle.gg_cut_reference.proofs.HolderLemmas.{keeper-is}
 use Rattle.gg_cut_reference.proofs.WholeReference.{made, ordered, whole-formed}
-use Rattle.gg_cut_reference.specs.whole.Whole.{CanBridge, CanStandAll, driven_signal, plan_circuit, seen_signal}
+use Rattle.gg_cut_reference.specs.whole.Whole.{CanBridge, CanStandAll, driven_signal, plan_circuit, bridge_signal}
 use Rattle.gg_cut_reference.proofs.WholeLemmas.NameLemmas.{ArePorts, with-joined, stand-all}
 use Rattle.gg_cut_reference.proofs.WholeLemmas.SeenLemmas.{driven-only, ports-at, seen-once, seen-only}
 
@@ -111,9 +111,9 @@ module _ (design : Ordered) (request : Request) (models : Models) (can : CanBrid
   driven-known = all-ports (Contains (channel_names design.circuit design.circuit.ins)) (λ entry. entry.drives) request.bridges (λ k any lt i less. (fit.each k any lt).driven i less)
 
   abbrev boxes : List Attached
-  boxes = map (attached_of (seen_signal design request) (driven_signal design) models) request.bridges
+  boxes = map (attached_of (bridge_signal design request) (driven_signal design) models) request.bridges
 
-  are-ports : ArePorts (plan_reference design request) (seen_signal design request) (driven_signal design) request.bridges
+  are-ports : ArePorts (plan_reference design request) (bridge_signal design request) (driven_signal design) request.bridges
   are-ports =
       record {
         outs = λ name h. seen-only hub (plan_reference design request) _ can.design_is.formed can.free reference-made base outs tops refl name (seen-known name h);
@@ -137,13 +137,13 @@ module _ (design : Ordered) (request : Request) (models : Models) (can : CanBrid
   -- ---- the whole
 
   -- the circuit of the plan is the reference circuit with the models at the ports' signals
-  pub circuit-joined : plan_circuit design request models ≡ joined_all (plan_reference design request) (map (attached_of (seen_signal design request) (driven_signal design) models) request.bridges)
-  circuit-joined = with-joined (seen_signal design request) (driven_signal design) models (plan_reference design request) request.bridges are-ports
+  pub circuit-joined : plan_circuit design request models ≡ joined_all (plan_reference design request) (map (attached_of (bridge_signal design request) (driven_signal design) models) request.bridges)
+  circuit-joined = with-joined (bridge_signal design request) (driven_signal design) models (plan_reference design request) request.bridges are-ports
 
-  pub attach-all : CanAttachAll (plan_reference design request) (map (attached_of (seen_signal design request) (driven_signal design) models) request.bridges)
+  pub attach-all : CanAttachAll (plan_reference design request) (map (attached_of (bridge_signal design request) (driven_signal design) models) request.bridges)
   attach-all =
       each-can (plan_reference design request) boxes reference-formed
-      (all-can-attach design.circuit outs models (plan_reference design request) (seen_signal design request) (driven_signal design)
+      (all-can-attach design.circuit outs models (plan_reference design request) (bridge_signal design request) (driven_signal design)
       (ports-at hub (plan_reference design request) _ can.design_is.formed can.free reference-made base outs tops) can.are request.bridges fit)
 
   pub circuit-formed : IsWellFormed (plan_circuit design request models)
@@ -153,4 +153,4 @@ module _ (design : Ordered) (request : Request) (models : Models) (can : CanBrid
   circuit-ordered = subst HasOrder (sym circuit-joined) (all-ordered (plan_reference design request) boxes reference-ordered.order attach-all reference-formed reference-ordered.is)
 
   pub all-stand : CanStandAll models (plan_reference design request) request.bridges
-  all-stand = stand-all (seen_signal design request) (driven_signal design) models (plan_reference design request) request.bridges are-ports attach-all
+  all-stand = stand-all (bridge_signal design request) (driven_signal design) models (plan_reference design request) request.bridges are-ports attach-all

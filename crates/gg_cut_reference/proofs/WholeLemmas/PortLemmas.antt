@@ -26,7 +26,7 @@ use Rattle.gg_cut_plan.proofs.PathLemmas.{among-contains}
 use Rattle.gg_cut_reference.specs.fitting.Fitting.{attached_of}
 use Rattle.gg_cut_reference.specs.Links.{taken_as}
 use Rattle.gg_cut_reference.specs.Made.{plan_reference}
-use Rattle.gg_cut_reference.specs.whole.Whole.{CanBridge, driven_signal, plan_circuit, seen_signal}
+use Rattle.gg_cut_reference.specs.whole.Whole.{CanBridge, driven_signal, plan_circuit, bridge_signal}
 use Rattle.gg_cut_reference.proofs.WholeLemmas.LeftLemmas.{same-test, filter-at, filter-all, filter-map, ins-left, outs-left, same-clocks, drives-of, sees-of}
 use Rattle.gg_cut_reference.proofs.WholeLemmas.NameLemmas.{image-of}
 use Rattle.gg_cut_reference.proofs.WholeLemmas.PlanLemmas.{base, circuit-joined, driven-known, reference-made, seen-known, tops}
@@ -57,7 +57,7 @@ module _ (design : Ordered) (request : Request) (models : Models) (can : CanBrid
   outs = take (output_count design) design.circuit.outs
 
   abbrev boxes : List Attached
-  boxes = map (attached_of (seen_signal design request) (driven_signal design) models) request.bridges
+  boxes = map (attached_of (bridge_signal design request) (driven_signal design) models) request.bridges
 
   -- ---- inputs
 
@@ -87,13 +87,13 @@ module _ (design : Ordered) (request : Request) (models : Models) (can : CanBrid
   plan-ins =
       ap (λ (c : FlatCircuit). c.ins) (circuit-joined design request models can)
       ∙ ins-left one boxes
-      ∙ ap (λ (gone : List ℕ). without gone design.circuit.ins) (drives-of (seen_signal design request) (driven_signal design) models request.bridges)
+      ∙ ap (λ (gone : List ℕ). without gone design.circuit.ins) (drives-of (bridge_signal design request) (driven_signal design) models request.bridges)
       ∙ filter-at (λ s. not (list_any (λ t. t == s) (map (driven_signal design) (all_driven request.bridges)))) (λ s. not (is_among (all_driven request.bridges) (path_at design.circuit.paths s))) design.circuit.ins (λ s h. ap not (driven-same s h))
 
   -- ---- outputs
 
   abbrev gone : ℕ → Bool
-  gone s = list_any (λ t. t == taken_as hub s) (map (seen_signal design request) (all_seen request.bridges))
+  gone s = list_any (λ t. t == taken_as hub s) (map (bridge_signal design request) (all_seen request.bridges))
 
   -- what is gone is an output of one of the names
   record IsSeenAs (s : ℕ) : Type 0 where
@@ -102,7 +102,7 @@ module _ (design : Ordered) (request : Request) (models : Models) (can : CanBrid
 
   gone-is : (s : ℕ) → Contains design.circuit.outs s → gone s ≡ true → IsSeenAs s
   gone-is s h e =
-      let image = image-of (seen_signal design request) (all_seen request.bridges) (taken_as hub s) (any-is (map (seen_signal design request) (all_seen request.bridges)) (taken_as hub s) e) in
+      let image = image-of (bridge_signal design request) (all_seen request.bridges) (taken_as hub s) (any-is (map (bridge_signal design request) (all_seen request.bridges)) (taken_as hub s) e) in
       let at = seen-at hub one _ can.design_is.formed can.free (reference-made design request models can) (base design request models can) outs (tops design request models can) image.name (seen-known design request models can image.name image.among) in
       let called = named-called hub one _ can.design_is.formed can.free (reference-made design request models can) (base design request models can) outs (tops design request models can) outs image.name at in
       let same = taken-once hub one _ can.design_is.formed can.free (reference-made design request models can) (base design request models can) at.signal s at.low (low-out s h) (ap (taken_as hub) (sym called) ∙ image.is) in
@@ -119,9 +119,9 @@ module _ (design : Ordered) (request : Request) (models : Models) (can : CanBrid
 
       from : is_among (all_seen request.bridges) (path_at design.circuit.paths s) ≡ true → gone s ≡ true
       from e =
-          any-has (map (seen_signal design request) (all_seen request.bridges)) (taken_as hub s)
-          (subst (λ k. Contains (map (seen_signal design request) (all_seen request.bridges)) (taken_as hub k)) (called-path design.circuit can.design_is.formed s (low-out s (tops design request models can s h)))
-          (Contains-map (seen_signal design request) (all_seen request.bridges) (path_at design.circuit.paths s) (found-path (all_seen request.bridges) (path_at design.circuit.paths s) e)))
+          any-has (map (bridge_signal design request) (all_seen request.bridges)) (taken_as hub s)
+          (subst (λ k. Contains (map (bridge_signal design request) (all_seen request.bridges)) (taken_as hub k)) (called-path design.circuit can.design_is.formed s (low-out s (tops design request models can s h)))
+          (Contains-map (bridge_signal design request) (all_seen request.bridges) (path_at design.circuit.paths s) (found-path (all_seen request.bridges) (path_at design.circuit.paths s) e)))
 
   -- ---- stops
 
@@ -198,8 +198,8 @@ module _ (design : Ordered) (request : Request) (models : Models) (can : CanBrid
   plan-outs =
       ap (λ (c : FlatCircuit). c.outs) (circuit-joined design request models can)
       ∙ outs-left one boxes
-      ∙ ap (λ (list : List ℕ). without list one.outs) (sees-of (seen_signal design request) (driven_signal design) models request.bridges)
-      ∙ filter-map (λ s. not (list_any (λ t. t == s) (map (seen_signal design request) (all_seen request.bridges)))) (taken_as hub) design.circuit.outs
+      ∙ ap (λ (list : List ℕ). without list one.outs) (sees-of (bridge_signal design request) (driven_signal design) models request.bridges)
+      ∙ filter-map (λ s. not (list_any (λ t. t == s) (map (bridge_signal design request) (all_seen request.bridges)))) (taken_as hub) design.circuit.outs
       ∙ ap (map (taken_as hub))
       (ap (filter (λ s. not (gone s))) (sym (take-append-drop (output_count design) design.circuit.outs))
       ∙ filter-append (λ s. not (gone s)) outs (drop (output_count design) design.circuit.outs)

@@ -25,7 +25,7 @@ use Rattle.gg_cut_reference.specs.fitting.Fitting.{attached_of}
 use Rattle.gg_cut_reference.specs.Made.{plan_reference}
 use Rattle.gg_cut_reference.proofs.FollowLemmas.{input-column}
 use Rattle.gg_cut_reference.proofs.ReferenceLemmas.{drop-part, later-less, later-row, part-zero, row-part}
-use Rattle.gg_cut_reference.specs.whole.Whole.{CanBridge, RunsModel, RunsWhole, driven_signal, model_signals, plan_begin, plan_circuit, seen_signal, states_with}
+use Rattle.gg_cut_reference.specs.whole.Whole.{CanBridge, RunsModel, RunsWhole, driven_signal, model_signals, plan_begin, plan_circuit, bridge_signal, states_with}
 use Rattle.gg_cut_reference.proofs.WholeLemmas.PlanLemmas.{attach-all, circuit-formed, circuit-joined, reference-formed}
 use Rattle.gg_cut_reference.proofs.WholeLemmas.PortLemmas.{plan-ins}
 
@@ -102,7 +102,7 @@ module _ (design : Ordered) (request : Request) (models : Models) (start : Start
   one = plan_reference design request
 
   abbrev boxes : List Attached
-  boxes = map (attached_of (seen_signal design request) (driven_signal design) models) request.bridges
+  boxes = map (attached_of (bridge_signal design request) (driven_signal design) models) request.bridges
 
   abbrev begin_in : State → Start
   begin_in state = record { cycle = start.cycle; state = state; ratios = start.ratios }
@@ -110,7 +110,7 @@ module _ (design : Ordered) (request : Request) (models : Models) (start : Start
   runs : RunsAllFrom start (since start.cycle end) (drop start.cycle rows) one boxes
   runs =
       all-runs start (since start.cycle end) one boxes columns (drop start.cycle rows) (attach-all design request models can) (reference-formed design request models can) typed
-      (subst (λ (state : State). IsRunFrom (joined_all one boxes) (begin_in state) columns (since start.cycle end) (drop start.cycle rows)) (same-states (seen_signal design request) (driven_signal design) models start.state request.bridges)
+      (subst (λ (state : State). IsRunFrom (joined_all one boxes) (begin_in state) columns (since start.cycle end) (drop start.cycle rows)) (same-states (bridge_signal design request) (driven_signal design) models start.state request.bridges)
       (subst (λ (c : FlatCircuit). IsRunFrom c (plan_begin design request models start) columns (since start.cycle end) (drop start.cycle rows)) (circuit-joined design request models can) run.run))
 
   fed : (p t : ℕ) → p < length (open_ins design.circuit request) → start.cycle ≤ t → t < end → value_at (column rows (value_at (open_ins design.circuit request) p)) t ≡ value_at (get_or columns p []) t
@@ -125,12 +125,12 @@ module _ (design : Ordered) (request : Request) (models : Models) (start : Start
   each k lt =
       let entry = entry_at request.bridges k in
       let model = model_of models entry in
-      let own = model-runs (seen_signal design request) (driven_signal design) models start.cycle (since start.cycle end) (drop start.cycle rows) one request.bridges k lt runs.models in
+      let own = model-runs (bridge_signal design request) (driven_signal design) models start.cycle (since start.cycle end) (drop start.cycle rows) one request.bridges k lt runs.models in
       let globals = model_signals design request models k in
       record {
         run =
-            subst (λ (cs : List (List ℕ)). AreRows model (model_start model start) cs end (part_rows globals rows)) (map-map (column rows) (seen_signal design request) entry.sees)
-            (part-rows model (model_start model start) globals (map (seen_signal design request) entry.sees) end rows run.begun run.count run.before own.run);
+            subst (λ (cs : List (List ℕ)). AreRows model (model_start model start) cs end (part_rows globals rows)) (map-map (column rows) (bridge_signal design request) entry.sees)
+            (part-rows model (model_start model start) globals (map (bridge_signal design request) entry.sees) end rows run.begun run.count run.before own.run);
         driven = λ i less.
             let name = path_at entry.drives i in
             columns-agree start.cycle rows globals (driven_signal design name) (value_at model.outs i) run.before

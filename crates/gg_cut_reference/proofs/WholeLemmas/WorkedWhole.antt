@@ -19,7 +19,7 @@ use Rattle.gg_cut_plan.specs.Bridges.{Models}
 use Rattle.gg_cut_plan.specs.Seated.{open_ins, open_outs}
 use Rattle.gg_cut_plan.proofs.WorkedPair.{input, output}
 use Rattle.gg_order.specs.Found.{found_order}
-use Rattle.gg_cut_reference.specs.whole.Whole.{driven_signal, model_signals, plan_circuit, seen_signal}
+use Rattle.gg_cut_reference.specs.whole.Whole.{driven_signal, model_signals, plan_circuit, bridge_signal}
 
 -- ---- two sums, of the input `x` and of its complement
 
@@ -67,10 +67,10 @@ driven-no-input : ¬ ((whole []).ins ≡ 0 ∷ [])
 driven-no-input is = absurd (let e = ap length is in omega (arith, e))
 
 -- what the echo sees and drives, and its own signals; behind a pipe it sees the pipe
-signals : seen_signal design (asks []) (codes "q") ∷ driven_signal design (codes "x") ∷ model_signals design (asks []) models 0 ≡ 2 ∷ 0 ∷ 7 ∷ 8 ∷ []
+signals : bridge_signal design (asks []) (codes "q") ∷ driven_signal design (codes "x") ∷ model_signals design (asks []) models 0 ≡ 2 ∷ 0 ∷ 7 ∷ 8 ∷ []
 signals = refl
 
-piped-signals : seen_signal design (asks (codes "q" ∷ [])) (codes "q") ∷ driven_signal design (codes "x") ∷ model_signals design (asks (codes "q" ∷ [])) models 0 ≡ 7 ∷ 0 ∷ 8 ∷ 9 ∷ []
+piped-signals : bridge_signal design (asks (codes "q" ∷ [])) (codes "q") ∷ driven_signal design (codes "x") ∷ model_signals design (asks (codes "q" ∷ [])) models 0 ≡ 7 ∷ 0 ∷ 8 ∷ 9 ∷ []
 piped-signals = refl
 
 -- ---- the order, and the rows

@@ -80,8 +80,8 @@ signal_called circuit name = unwrap_or (place_of circuit.paths name) 0
 
 -- the signal of the reference circuit that a bridge sees at an output, which is that of the output's pipe if it has one; and the one that a
 -- bridge drives at an input
-abbrev pub seen_signal : Ordered → Request → List ℕ → ℕ
-seen_signal design request name = taken_as (plan_hub design.circuit design.tree request) (signal_called design.circuit name)
+abbrev pub bridge_signal : Ordered → Request → List ℕ → ℕ
+bridge_signal design request name = taken_as (plan_hub design.circuit design.tree request) (signal_called design.circuit name)
 
 -- the signal of the input with this name, which a bridge drives
 abbrev pub driven_signal : Ordered → List ℕ → ℕ
@@ -102,7 +102,7 @@ reference_rows design request rows = part_rows (range_with_len 0 (length (plan_r
 -- The model of entry k runs on what its bridge sees, with zeros at the start's cycle, and what the bridge drives has the columns of the
 -- model's out-signals.
 pub record RunsModel (design : Ordered) (request : Request) (models : Models) (start : Start) (end : ℕ) (rows : List (List ℕ)) (k : ℕ) (entry : BridgeEntry) : Type 0 where
-  pub run : AreRows (model_of models entry) (model_start (model_of models entry) start) (map (λ name. column rows (seen_signal design request name)) entry.sees) end (part_rows (model_signals design request models k) rows)
+  pub run : AreRows (model_of models entry) (model_start (model_of models entry) start) (map (λ name. column rows (bridge_signal design request name)) entry.sees) end (part_rows (model_signals design request models k) rows)
   pub driven : (i : ℕ) → i < length entry.drives
       → column rows (driven_signal design (path_at entry.drives i)) ≡ column (part_rows (model_signals design request models k) rows) (value_at (model_of models entry).outs i)
 

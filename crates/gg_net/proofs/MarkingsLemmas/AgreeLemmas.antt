@@ -18,7 +18,7 @@ use Rattle.gg_net.proofs.PortLemmas.{any_port}
 use Rattle.gg_net.proofs.FrameLemmas.{machine-known, machine-there, kind-is}
 use Rattle.gg_net.proofs.WireLemmas.{one-in, channel-is}
 use Rattle.gg_net.proofs.TableLemmas.{port-there}
-use Rattle.gg_net.specs.markings.Marking.{Layout, Marking, turns_at, port_count, marked_facts, refusal}
+use Rattle.gg_net.specs.markings.Marking.{Layout, Marking, turns_at, port_count, marked_facts, marked_refusal}
 use Rattle.gg_net.specs.markings.Fits.{HasLayout, AreTaken, AreTurnsOf, IsTurnOf, places_of, marking_of}
 use Rattle.gg_net.proofs.MarkingsLemmas.CountLemmas.{cycle-at, served-at, taken-at, given-at, held-is, machine-count}
 use Rattle.gg_net.proofs.MarkingsLemmas.AlikeLemmas.{AreAlike, same-refusal}
@@ -117,5 +117,5 @@ module _ (flow : Flow) (net : Network) (kept : Kept flow net) (layout : Layout) 
       }
 
   -- An event of a network is refused just as its marking refuses it.
-  pub marked : (event : Event) → table.refusal (facts_of net) event ≡ refusal layout marking event
+  pub marked : (event : Event) → table.refusal (facts_of net) event ≡ marked_refusal layout marking event
   marked event = same-refusal (facts_of net) (marked_facts layout marking) alike event

@@ -11,7 +11,7 @@ use Rattle.gg_net.specs.Network.{Network, wire_at, queue_at, and_one, got_by, en
 use Rattle.gg_net.specs.Network as network
 use Rattle.gg_net.specs.Step.{latch_of, flag_of}
 use Rattle.gg_net.specs.Kept.{Kept, BetweenAt, list_at}
-use Rattle.gg_net.specs.markings.Marking.{Layout, Marking, is_set, puts, entered, takes, held}
+use Rattle.gg_net.specs.markings.Marking.{Layout, Marking, is_set, marked_puts, marked_entered, marked_takes, held}
 use Rattle.gg_net.specs.markings.Fits.{HasLayout, marking_of}
 
 -- ---- over plain variables
@@ -45,19 +45,19 @@ module _ (net : Network) where
 
     -- ---- counts
 
-    pub puts-are : (c : ℕ) → c < length net.wires → network.puts net c ≡ puts layout marking c
+    pub puts-are : (c : ℕ) → c < length net.wires → network.puts net c ≡ marked_puts layout marking c
     puts-are c known =
         ap (λ b. and_one (machine_at net.machines (wire_at net.wires c).producer).cycle b) (sym (given-at c known))
         ∙ ap (λ n. and_one n (is_set marking.given c)) (sym (cycle-at (wire_at net.wires c).producer))
         ∙ ap (λ m. and_one (value_at marking.cycles m) (is_set marking.given c)) (sym (has.link c known).producer)
 
-    pub entered-are : (c : ℕ) → c < length net.wires → network.entered net c ≡ entered layout marking c
+    pub entered-are : (c : ℕ) → c < length net.wires → network.entered net c ≡ marked_entered layout marking c
     entered-are c known =
         entered-counts (wire_at net.wires c).first (network.puts net c)
         ∙ ap (λ n. and_one n (is_some (wire_at net.wires c).first)) (puts-are c known)
-        ∙ ap (and_one (puts layout marking c)) (sym (has.link c known).piped)
+        ∙ ap (and_one (marked_puts layout marking c)) (sym (has.link c known).piped)
 
-    pub takes-are : (c : ℕ) → c < length net.wires → network.takes net c ≡ takes layout marking c
+    pub takes-are : (c : ℕ) → c < length net.wires → network.takes net c ≡ marked_takes layout marking c
     takes-are c known =
         got-counts (machine_at net.machines (wire_at net.wires c).consumer).cycle (latch_of net c)
         ∙ ap (λ b. and_one (machine_at net.machines (wire_at net.wires c).consumer).cycle b) (sym (taken-at c known))

@@ -5,7 +5,7 @@ use Rattle.std.specs.Prelude.{◌⊎◌, replicate}
 use Rattle.std.proofs.lemmas.List.{length-replicate, get_or-replicate}
 use Rattle.gg_flat.specs.Line.{value_at}
 use Rattle.gg_net.specs.declared.event.Event.{Event}
-use Rattle.gg_net.specs.markings.Marking.{Layout, Marking, link_at, puts, held, opening_marking, refusal}
+use Rattle.gg_net.specs.markings.Marking.{Layout, Marking, link_at, marked_puts, held, opening_marking, marked_refusal}
 use Rattle.gg_net.specs.Network.{and_one}
 use Rattle.gg_net.specs.markings.Counts.{Counts, counts_of, early, dues, HasServed, IsAllowed, HasBegun, AreAtMost, CanRun, IsMarkingOf}
 use Rattle.gg_net.specs.markings.Measure.{left, left_in, left_at, all_dues, sum_below}
@@ -145,7 +145,7 @@ module _ (layout : Layout) (can : CanRun layout) where
   -- ---- progress
 
   -- some event can be done, or this is the end
-  pub goes-or-ends : (marking : Marking) → IsMarkingOf layout marking → IsAllowed layout (counts_of layout marking) → ((event : Event) × (refusal layout marking event ≡ None)) ⊎ (end_marking layout ≡ marking)
+  pub goes-or-ends : (marking : Marking) → IsMarkingOf layout marking → IsAllowed layout (counts_of layout marking) → ((event : Event) × (marked_refusal layout marking event ≡ None)) ⊎ (end_marking layout ≡ marking)
   goes-or-ends marking shape allowed =
       elim (next-event layout can marking (counts_of layout (end_marking layout)) allowed end-allowed (end-highest (counts_of layout marking) allowed)) [
         | inl found ↦ inl (found.0, found.1)
@@ -182,4 +182,4 @@ module _ (layout : Layout) (can : CanRun layout) where
 
   -- at the end each channel holds what it opened with
   pub end-held : (c : ℕ) → c < length layout.links → held layout (end_marking layout) c ≡ early layout c
-  end-held c known = omega (arith, level-puts layout.end c known, level-takes layout.end c known, entered-is (puts layout (end_marking layout) c) (link_at layout c).piped)
+  end-held c known = omega (arith, level-puts layout.end c known, level-takes layout.end c known, entered-is (marked_puts layout (end_marking layout) c) (link_at layout c).piped)

@@ -10,7 +10,7 @@ use Rattle.gg_net.specs.declared.event.Event.TheVariants.{Latch, Fire, Serve, Fi
 use Rattle.gg_net.specs.Refusal.{Turn, Facts, first_without, ins_of_machine, outs_of_machine}
 use Rattle.gg_net.proofs.FindLemmas.{find-none, found-skips, chosen-fail}
 use Rattle.gg_net.proofs.RowLemmas.{LatchGoes, latch-goes, goes-latch, FireGoes, fire-goes, goes-fire, ServeGoes, serve-goes, goes-serve, FinishGoes, finish-goes, goes-finish}
-use Rattle.gg_net.specs.markings.Marking.{Layout, Marking, link_at, turns_at, is_set, port_count, due_turn, marked_facts, refusal}
+use Rattle.gg_net.specs.markings.Marking.{Layout, Marking, link_at, turns_at, is_set, port_count, due_turn, marked_facts, marked_refusal}
 use Rattle.gg_net.specs.Network.{and_one}
 use Rattle.gg_net.specs.markings.Counts.{Counts, counts_of, early, dues, WasTaken, HasGiven, HasServed, IsAllowed, CanRun}
 use Rattle.gg_net.proofs.MarkingsLemmas.Free.{FreeLatch, FreeFire, FreeServe, FreeFinish, Free}
@@ -106,7 +106,7 @@ module _ (layout : Layout) (marking : Marking) (can : CanRun layout) where
   -- ---- Latch and Fire
 
   module _ (c : ℕ) where
-    latch-free : refusal layout marking (Latch c) ≡ None → FreeLatch layout counts c
+    latch-free : marked_refusal layout marking (Latch c) ≡ None → FreeLatch layout counts c
     latch-free is =
         let goes : LatchGoes facts c = latch-goes facts c is in
         record {
@@ -116,7 +116,7 @@ module _ (layout : Layout) (marking : Marking) (can : CanRun layout) where
           held = omega (arith, goes.held, entered-is (counts.puts c) (link_at layout c).piped);
         }
 
-    free-latch : FreeLatch layout counts c → refusal layout marking (Latch c) ≡ None
+    free-latch : FreeLatch layout counts c → marked_refusal layout marking (Latch c) ≡ None
     free-latch free =
         goes-latch facts c (record {
           known = free.known;
@@ -125,7 +125,7 @@ module _ (layout : Layout) (marking : Marking) (can : CanRun layout) where
           held = omega (arith, free.held, entered-is (counts.puts c) (link_at layout c).piped);
         })
 
-    fire-free : (c < length layout.links → counts.takes c ≤ counts.puts c + early layout c) → refusal layout marking (Fire c) ≡ None → FreeFire layout counts c
+    fire-free : (c < length layout.links → counts.takes c ≤ counts.puts c + early layout c) → marked_refusal layout marking (Fire c) ≡ None → FreeFire layout counts c
     fire-free least is =
         let goes : FireGoes facts c = fire-goes facts c is in
         record {
@@ -136,7 +136,7 @@ module _ (layout : Layout) (marking : Marking) (can : CanRun layout) where
           room = omega (arith, goes.room, least goes.known, entered-is (counts.puts c) (link_at layout c).piped);
         }
 
-    free-fire : FreeFire layout counts c → refusal layout marking (Fire c) ≡ None
+    free-fire : FreeFire layout counts c → marked_refusal layout marking (Fire c) ≡ None
     free-fire free =
         goes-fire facts c (record {
           known = free.known;
@@ -157,7 +157,7 @@ module _ (layout : Layout) (marking : Marking) (can : CanRun layout) where
           | inr over ↦ absurd (omega (arith, lt, ap length (get_or_past layout.turns m [] over)))
         ]
 
-    serve-free : refusal layout marking (Serve m p) ≡ None → FreeServe layout counts m p
+    serve-free : marked_refusal layout marking (Serve m p) ≡ None → FreeServe layout counts m p
     serve-free is =
         let goes : ServeGoes facts m p = serve-goes facts m p is in
         let turn : Turn = goes.due.turn in
@@ -176,7 +176,7 @@ module _ (layout : Layout) (marking : Marking) (can : CanRun layout) where
           fields = all-taken m turn.fields (subst (λ (t : Turn). All (λ d. (d < length layout.links) × ((link_at layout d).consumer ≡ m)) t.fields) at (can.fields m known (value_at marking.served m) turn within)) goes.due.fields;
         }
 
-    free-serve : FreeServe layout counts m p → refusal layout marking (Serve m p) ≡ None
+    free-serve : FreeServe layout counts m p → marked_refusal layout marking (Serve m p) ≡ None
     free-serve free =
         let j_is : free.served ≡ value_at marking.served m = omega (arith, free.count) in
         let due : due_turn layout marking m ≡ Some free.turn = ap (slice_get (turns_at layout m)) (sym j_is) ∙ free.due in
@@ -194,7 +194,7 @@ module _ (layout : Layout) (marking : Marking) (can : CanRun layout) where
   -- ---- Finish
 
   module _ (m : ℕ) where
-    finish-free : (m < length layout.turns → value_at marking.served m ≤ dues layout m) → refusal layout marking (Finish m) ≡ None → FreeFinish layout counts m
+    finish-free : (m < length layout.turns → value_at marking.served m ≤ dues layout m) → marked_refusal layout marking (Finish m) ≡ None → FreeFinish layout counts m
     finish-free most is =
         let goes : FinishGoes facts m = finish-goes facts m is in
         let all : value_at marking.served m ≡ dues layout m =
@@ -210,7 +210,7 @@ module _ (layout : Layout) (marking : Marking) (can : CanRun layout) where
           taken = has-taken m goes.latched;
         }
 
-    free-finish : FreeFinish layout counts m → refusal layout marking (Finish m) ≡ None
+    free-finish : FreeFinish layout counts m → marked_refusal layout marking (Finish m) ≡ None
     free-finish free =
         goes-finish facts m (record {
           there = free.known;
@@ -222,13 +222,13 @@ module _ (layout : Layout) (marking : Marking) (can : CanRun layout) where
 
   -- ---- any event
 
-  pub is-free : IsAllowed layout counts → (event : Event) → refusal layout marking event ≡ None → Free layout counts event
+  pub is-free : IsAllowed layout counts → (event : Event) → marked_refusal layout marking event ≡ None → Free layout counts event
   is-free allowed (Latch c) is = latch-free c is
   is-free allowed (Fire c) is = fire-free c (λ known. (allowed.flows c known).least) is
   is-free allowed (Serve m p) is = serve-free m p is
   is-free allowed (Finish m) is = finish-free m (λ known. let has : (j : ℕ) × HasServed layout counts m j = allowed.serves m known in omega (arith, has.1.count, has.1.within)) is
 
-  pub free-is : (event : Event) → Free layout counts event → refusal layout marking event ≡ None
+  pub free-is : (event : Event) → Free layout counts event → marked_refusal layout marking event ≡ None
   free-is (Latch c) free = free-latch c free
   free-is (Fire c) free = free-fire c free
   free-is (Serve m p) free = free-serve m p free

@@ -5,7 +5,7 @@ use Rattle.std.specs.Prelude.{◌⊎◌, All, slice_index_or}
 use Rattle.std.proofs.lemmas.Bool.{cases_lt}
 use Rattle.gg_net.specs.declared.event.Event.{Event}
 use Rattle.gg_net.specs.declared.event.Event.TheVariants.{Latch, Fire, Serve, Finish}
-use Rattle.gg_net.specs.markings.Marking.{Layout, Marking, link_at, turns_at, refusal}
+use Rattle.gg_net.specs.markings.Marking.{Layout, Marking, link_at, turns_at, marked_refusal}
 use Rattle.gg_net.specs.markings.Counts.{Counts, counts_of, dues, WasTaken, HasServed, IsAllowed, AreAtMost, IsBehind, CanRun}
 use Rattle.gg_net.proofs.MarkingsLemmas.Free.{Free}
 use Rattle.gg_net.proofs.MarkingsLemmas.EarlyLemmas.{early-few}
@@ -100,7 +100,7 @@ module _ (layout : Layout) (can : CanRun layout) (upto : ℕ) (marking : Marking
       ]
   is-below (Finish m) free behind = behind
 
-  pub goes-below : ((event : Event) × (refusal layout marking event ≡ None) × (counts.cycles (machine_by layout event) < upto)) ⊎ ((m : ℕ) → m < length layout.turns → counts.cycles m ≡ upto)
+  pub goes-below : ((event : Event) × (marked_refusal layout marking event ≡ None) × (counts.cycles (machine_by layout event) < upto)) ⊎ ((m : ℕ) → m < length layout.turns → counts.cycles m ≡ upto)
   goes-below =
       elim (next-event layout can marking (goal layout can upto counts allowed within below) allowed (goal-allowed layout can upto counts allowed within below) (goal-above layout can upto counts allowed within below)) [
         | inl found ↦ inl (found.0, found.1, is-below found.0 (is-free layout marking can allowed found.0 found.1) found.2)

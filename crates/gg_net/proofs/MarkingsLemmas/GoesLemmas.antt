@@ -7,7 +7,7 @@ use Rattle.gg_net.specs.Network.{Network, frame_of}
 use Rattle.gg_net.specs.Kept.{Kept}
 use Rattle.gg_net.specs.Step.{Ready, Step}
 use Rattle.gg_net.proofs.TableLemmas.{latch-can, fire-can, serve-can, finish-can}
-use Rattle.gg_net.specs.markings.Marking.{Layout, refusal, after}
+use Rattle.gg_net.specs.markings.Marking.{Layout, marked_refusal, after}
 use Rattle.gg_net.specs.markings.Fits.{HasLayout, marking_of}
 use Rattle.gg_net.proofs.MarkingsLemmas.AgreeLemmas.{marked}
 use Rattle.gg_net.proofs.MarkingsLemmas.LatchStep.{latch-frame, latch-step}
@@ -16,10 +16,10 @@ use Rattle.gg_net.proofs.MarkingsLemmas.ServeStep.{serve-frame, serve-step}
 use Rattle.gg_net.proofs.MarkingsLemmas.FinishStep.{finish-frame, finish-step}
 
 module _ (flow : Flow) (net : Network) (kept : Kept flow net) (layout : Layout) (has : HasLayout (frame_of net) layout) where
-  pub ready-free : (event : Event) → Ready net event → refusal layout (marking_of net) event ≡ None
+  pub ready-free : (event : Event) → Ready net event → marked_refusal layout (marking_of net) event ≡ None
   ready-free event ready = sym (marked flow net kept layout has event) ∙ ready
 
-  pub free-ready : (event : Event) → refusal layout (marking_of net) event ≡ None → Ready net event
+  pub free-ready : (event : Event) → marked_refusal layout (marking_of net) event ≡ None → Ready net event
   free-ready event free = marked flow net kept layout has event ∙ free
 
   pub step-marks : (event : Event) (new : Network) → Step net event new → marking_of new ≡ after layout (marking_of net) event

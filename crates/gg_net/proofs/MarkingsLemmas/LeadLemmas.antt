@@ -8,7 +8,7 @@ use Rattle.gg_flat.specs.Line.{value_at}
 use Rattle.gg_net.specs.declared.event.Event.{Event}
 use Rattle.gg_net.specs.declared.event.Event.TheVariants.{Latch, Fire, Serve, Finish}
 use Rattle.gg_net.specs.Refusal.{Turn}
-use Rattle.gg_net.specs.markings.Marking.{Layout, Marking, link_at, is_set, due_turn, refusal, after}
+use Rattle.gg_net.specs.markings.Marking.{Layout, Marking, link_at, is_set, due_turn, marked_refusal, after}
 use Rattle.gg_net.specs.Network.{and_one}
 use Rattle.gg_net.proofs.MarkingsLemmas.ChangeLemmas.{same-parts}
 use Rattle.gg_net.specs.markings.Counts.{Counts, counts_of, dues, IsAllowed, AreAtMost, AreSame, IsBehind, Raises, CanRun, IsMarkingOf}
@@ -100,7 +100,7 @@ pub record Went (layout : Layout) (old : Marking) (event : Event) : Type 0 where
   pub falls : suc (left layout (counts_of layout (after layout old event))) ≡ left layout (counts_of layout old)
 
 module _ (layout : Layout) (can : CanRun layout) where
-  pub went : (old : Marking) (event : Event) → IsMarkingOf layout old → IsAllowed layout (counts_of layout old) → refusal layout old event ≡ None → Went layout old event
+  pub went : (old : Marking) (event : Event) → IsMarkingOf layout old → IsAllowed layout (counts_of layout old) → marked_refusal layout old event ≡ None → Went layout old event
   went old event shape allowed is =
       let free : Free layout (counts_of layout old) event = is-free layout old can allowed event is in
       let raises : Raises layout (counts_of layout old) event (counts_of layout (after layout old event)) = raises-after layout old shape event free in
@@ -119,40 +119,40 @@ module _ (layout : Layout) (can : CanRun layout) where
     counts = counts_of layout marking
 
     abbrev can_latch : ℕ → Bool
-    can_latch c = is_none (refusal layout marking (Latch c)) && nat_lt (counts.takes c) (goal.takes c)
+    can_latch c = is_none (marked_refusal layout marking (Latch c)) && nat_lt (counts.takes c) (goal.takes c)
 
     abbrev can_fire : ℕ → Bool
-    can_fire c = is_none (refusal layout marking (Fire c)) && nat_lt (counts.puts c) (goal.puts c)
+    can_fire c = is_none (marked_refusal layout marking (Fire c)) && nat_lt (counts.puts c) (goal.puts c)
 
     abbrev due_of : ℕ → ℕ
     due_of m = number_of (due_turn layout marking m)
 
     abbrev can_serve : ℕ → Bool
-    can_serve m = is_none (refusal layout marking (Serve m (due_of m))) && nat_lt (counts.serves m) (goal.serves m)
+    can_serve m = is_none (marked_refusal layout marking (Serve m (due_of m))) && nat_lt (counts.serves m) (goal.serves m)
 
     abbrev can_finish : ℕ → Bool
-    can_finish m = is_none (refusal layout marking (Finish m)) && nat_lt (counts.cycles m) (goal.cycles m)
+    can_finish m = is_none (marked_refusal layout marking (Finish m)) && nat_lt (counts.cycles m) (goal.cycles m)
 
     due-of : (m p : ℕ) → FreeServe layout counts m p → due_of m ≡ p
     due-of m p free = ap number_of (due-is layout marking can m p free) ∙ free.number
 
     -- some event can be done that the goal has too, or the goal is reached
-    pub next-event : ((event : Event) × (refusal layout marking event ≡ None) × IsBehind counts goal event) ⊎ AreSame layout counts goal
+    pub next-event : ((event : Event) × (marked_refusal layout marking event ≡ None) × IsBehind counts goal event) ⊎ AreSame layout counts goal
     next-event =
         elim (any-below can_latch (length layout.links)) [
-          | inl found ↦ let both : (is_none (refusal layout marking (Latch found.0)) ≡ true) × (nat_lt (counts.takes found.0) (goal.takes found.0) ≡ true) = and_parts (is_none (refusal layout marking (Latch found.0))) (nat_lt (counts.takes found.0) (goal.takes found.0)) found.2 in inl (Latch found.0, none-is (refusal layout marking (Latch found.0)) both.0, ltb-true (counts.takes found.0) (goal.takes found.0) both.1)
+          | inl found ↦ let both : (is_none (marked_refusal layout marking (Latch found.0)) ≡ true) × (nat_lt (counts.takes found.0) (goal.takes found.0) ≡ true) = and_parts (is_none (marked_refusal layout marking (Latch found.0))) (nat_lt (counts.takes found.0) (goal.takes found.0)) found.2 in inl (Latch found.0, none-is (marked_refusal layout marking (Latch found.0)) both.0, ltb-true (counts.takes found.0) (goal.takes found.0) both.1)
           | inr no_latch ↦ elim (any-below can_fire (length layout.links)) [
-            | inl found ↦ let both : (is_none (refusal layout marking (Fire found.0)) ≡ true) × (nat_lt (counts.puts found.0) (goal.puts found.0) ≡ true) = and_parts (is_none (refusal layout marking (Fire found.0))) (nat_lt (counts.puts found.0) (goal.puts found.0)) found.2 in inl (Fire found.0, none-is (refusal layout marking (Fire found.0)) both.0, ltb-true (counts.puts found.0) (goal.puts found.0) both.1)
+            | inl found ↦ let both : (is_none (marked_refusal layout marking (Fire found.0)) ≡ true) × (nat_lt (counts.puts found.0) (goal.puts found.0) ≡ true) = and_parts (is_none (marked_refusal layout marking (Fire found.0))) (nat_lt (counts.puts found.0) (goal.puts found.0)) found.2 in inl (Fire found.0, none-is (marked_refusal layout marking (Fire found.0)) both.0, ltb-true (counts.puts found.0) (goal.puts found.0) both.1)
             | inr no_fire ↦ elim (any-below can_serve (length layout.turns)) [
-              | inl found ↦ let both : (is_none (refusal layout marking (Serve found.0 (due_of found.0))) ≡ true) × (nat_lt (counts.serves found.0) (goal.serves found.0) ≡ true) = and_parts (is_none (refusal layout marking (Serve found.0 (due_of found.0)))) (nat_lt (counts.serves found.0) (goal.serves found.0)) found.2 in inl (Serve found.0 (due_of found.0), none-is (refusal layout marking (Serve found.0 (due_of found.0))) both.0, ltb-true (counts.serves found.0) (goal.serves found.0) both.1)
+              | inl found ↦ let both : (is_none (marked_refusal layout marking (Serve found.0 (due_of found.0))) ≡ true) × (nat_lt (counts.serves found.0) (goal.serves found.0) ≡ true) = and_parts (is_none (marked_refusal layout marking (Serve found.0 (due_of found.0)))) (nat_lt (counts.serves found.0) (goal.serves found.0)) found.2 in inl (Serve found.0 (due_of found.0), none-is (marked_refusal layout marking (Serve found.0 (due_of found.0))) both.0, ltb-true (counts.serves found.0) (goal.serves found.0) both.1)
               | inr no_serve ↦ elim (any-below can_finish (length layout.turns)) [
-                | inl found ↦ let both : (is_none (refusal layout marking (Finish found.0)) ≡ true) × (nat_lt (counts.cycles found.0) (goal.cycles found.0) ≡ true) = and_parts (is_none (refusal layout marking (Finish found.0))) (nat_lt (counts.cycles found.0) (goal.cycles found.0)) found.2 in inl (Finish found.0, none-is (refusal layout marking (Finish found.0)) both.0, ltb-true (counts.cycles found.0) (goal.cycles found.0) both.1)
+                | inl found ↦ let both : (is_none (marked_refusal layout marking (Finish found.0)) ≡ true) × (nat_lt (counts.cycles found.0) (goal.cycles found.0) ≡ true) = and_parts (is_none (marked_refusal layout marking (Finish found.0))) (nat_lt (counts.cycles found.0) (goal.cycles found.0)) found.2 in inl (Finish found.0, none-is (marked_refusal layout marking (Finish found.0)) both.0, ltb-true (counts.cycles found.0) (goal.cycles found.0) both.1)
                 | inr no_finish ↦
                     inr (stuck-same layout can counts goal allowed high le
-                    (λ c more free. not-both (refusal layout marking (Latch c)) (counts.takes c) (goal.takes c) (no_latch c free.known) (free-is layout marking can (Latch c) free) more)
-                    (λ c more free. not-both (refusal layout marking (Fire c)) (counts.puts c) (goal.puts c) (no_fire c free.known) (free-is layout marking can (Fire c) free) more)
-                    (λ m p more free. not-both (refusal layout marking (Serve m (due_of m))) (counts.serves m) (goal.serves m) (no_serve m free.known) (ap (λ q. refusal layout marking (Serve m q)) (due-of m p free) ∙ free-is layout marking can (Serve m p) free) more)
-                    (λ m more free. not-both (refusal layout marking (Finish m)) (counts.cycles m) (goal.cycles m) (no_finish m free.known) (free-is layout marking can (Finish m) free) more))
+                    (λ c more free. not-both (marked_refusal layout marking (Latch c)) (counts.takes c) (goal.takes c) (no_latch c free.known) (free-is layout marking can (Latch c) free) more)
+                    (λ c more free. not-both (marked_refusal layout marking (Fire c)) (counts.puts c) (goal.puts c) (no_fire c free.known) (free-is layout marking can (Fire c) free) more)
+                    (λ m p more free. not-both (marked_refusal layout marking (Serve m (due_of m))) (counts.serves m) (goal.serves m) (no_serve m free.known) (ap (λ q. marked_refusal layout marking (Serve m q)) (due-of m p free) ∙ free-is layout marking can (Serve m p) free) more)
+                    (λ m more free. not-both (marked_refusal layout marking (Finish m)) (counts.cycles m) (goal.cycles m) (no_finish m free.known) (free-is layout marking can (Finish m) free) more))
               ]
             ]
           ]

@@ -4,7 +4,7 @@ use Rattle.std.specs.Prelude.{Result, Ok, Err}
 use Rattle.std.proofs.lemmas.List.{length_push}
 use Rattle.gg_net.specs.declared.event.Event.{Event}
 use Rattle.gg_net.specs.declared.event.StepRefusal.{StepRefusal}
-use Rattle.gg_net.specs.markings.Marking.{Layout, Marking, refusal, after}
+use Rattle.gg_net.specs.markings.Marking.{Layout, Marking, marked_refusal, after}
 use Rattle.gg_net.specs.markings.Goes.{Stopped, step_refusal, after_step, go_on, replayed_from}
 use Rattle.gg_net.specs.markings.Counts.{counts_of, IsAllowed, CanRun, IsMarkingOf}
 use Rattle.gg_net.specs.markings.Measure.{left}
@@ -32,7 +32,7 @@ module _ (layout : Layout) where
       ∙ ap (λ n. replayed_from layout n new more) (let same : suc k + length events ≡ k + suc (length events) = omega arith in same)
 
   -- one step that is done
-  one-done : (k : ℕ) (old : Marking) (event : Event) → refusal layout old event ≡ None → replayed_from layout k old (Some event ∷ []) ≡ Ok (after layout old event)
+  one-done : (k : ℕ) (old : Marking) (event : Event) → marked_refusal layout old event ≡ None → replayed_from layout k old (Some event ∷ []) ≡ Ok (after layout old event)
   one-done k old event free = ap (λ o. go_on k o (Ok (after layout old event))) free
 
   module _ (can : CanRun layout) where
@@ -48,8 +48,8 @@ module _ (layout : Layout) where
         no-step : (n : ℕ) (rest : Result Marking Stopped) (x : Marking) → go_on n (step_refusal layout old None) rest ≡ Ok x → ⊥
         no-step n rest x is = let none : ◌≡◌ {A = Option StepRefusal} (step_refusal layout old None) None = (goes-past n (step_refusal layout old None) rest x is).0 in cc
     replayed-kept k old (Some event ∷ events) new shape allowed is =
-        let past : (refusal layout old event ≡ None) × (replayed_from layout (suc k) (after layout old event) events ≡ Ok new) =
-        goes-past k (refusal layout old event) (replayed_from layout (suc k) (after layout old event) events) new is in
+        let past : (marked_refusal layout old event ≡ None) × (replayed_from layout (suc k) (after layout old event) events ≡ Ok new) =
+        goes-past k (marked_refusal layout old event) (replayed_from layout (suc k) (after layout old event) events) new is in
         let step : Went layout old event = went layout can old event shape allowed past.0 in
         let rest : IsMarkingOf layout new × IsAllowed layout (counts_of layout new) × (length events + left layout (counts_of layout new) ≡ left layout (counts_of layout (after layout old event))) =
         replayed-kept (suc k) (after layout old event) events new step.shape step.allowed past.1 in

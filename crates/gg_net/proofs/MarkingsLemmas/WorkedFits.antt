@@ -12,7 +12,7 @@ use Rattle.gg_net.specs.declared.event.StepRefusal.TheVariants.{Stranger, Fired}
 use Rattle.gg_net.specs.Network.{Network, Frame, frame_of, kind_at, wire_at}
 use Rattle.gg_net.specs.Step.{Step, after_latch, after_fire}
 use Rattle.gg_net.specs.Refusal.{Turn}
-use Rattle.gg_net.specs.markings.Marking.{Layout, opening_marking, link_at, turns_at, puts, held, after}
+use Rattle.gg_net.specs.markings.Marking.{Layout, opening_marking, link_at, turns_at, marked_puts, held, after}
 use Rattle.gg_net.specs.markings.Steps.{StepRefused, StopsAt}
 use Rattle.gg_net.specs.markings.Fits.{IsLinkOf, IsTurnOf, AreTurnsOf, HasLayout, marking_of}
 
@@ -84,7 +84,7 @@ given-so = refl
 taken-so : marking_of (after_latch (net None false true (5 ∷ []) []) 0) ≡ record { cycles = 0 ∷ 0 ∷ 0 ∷ []; served = 0 ∷ 0 ∷ 0 ∷ []; taken = true ∷ false ∷ []; given = true ∷ false ∷ [] }
 taken-so = refl
 
-one-put : puts counter (marking_of (net None false true (5 ∷ []) [])) 0 ≡ 1
+one-put : marked_puts counter (marking_of (net None false true (5 ∷ []) [])) 0 ≡ 1
 one-put = refl
 
 one-held : held counter (marking_of (net None false true (5 ∷ []) [])) 0 ≡ 1

@@ -5,7 +5,7 @@ use Rattle.gg_net.specs.declared.event.Event.{Event}
 use Rattle.gg_net.specs.declared.event.Event.TheVariants.{Latch, Fire, Serve, Finish}
 use Rattle.gg_net.specs.declared.event.StepRefusal.{StepRefusal}
 use Rattle.gg_net.specs.declared.event.StepRefusal.TheVariants.{Stranger, Ended, Latched, Fired, NoToken, NeedsInput, Full, Order, Unfired, Unserved}
-use Rattle.gg_net.specs.markings.Marking.{Link, Layout, Marking, opening_marking, puts, entered, takes, held, refusal, after}
+use Rattle.gg_net.specs.markings.Marking.{Link, Layout, Marking, opening_marking, marked_puts, marked_entered, marked_takes, held, marked_refusal, after}
 use Rattle.gg_net.specs.markings.Goes.{Stopped, replayed_from}
 
 -- ---- a counter: the hub 0, a source 1, a tray 2; channel 0 goes from the source to the hub, channel 1 from the hub to the tray
@@ -29,16 +29,16 @@ reached = record { cycles = 1 ∷ 0 ∷ 1 ∷ []; served = 0 ∷ 0 ∷ 0 ∷ [];
 counter-steps : replayed_from counter 1 (opening_marking counter 0) steps ≡ Ok reached
 counter-steps = refl
 
-counter-puts-0 : puts counter reached 0 ≡ 1
+counter-puts-0 : marked_puts counter reached 0 ≡ 1
 counter-puts-0 = refl
 
-counter-takes-0 : takes counter reached 0 ≡ 1
+counter-takes-0 : marked_takes counter reached 0 ≡ 1
 counter-takes-0 = refl
 
-counter-puts-1 : puts counter reached 1 ≡ 2
+counter-puts-1 : marked_puts counter reached 1 ≡ 2
 counter-puts-1 = refl
 
-counter-takes-1 : takes counter reached 1 ≡ 1
+counter-takes-1 : marked_takes counter reached 1 ≡ 1
 counter-takes-1 = refl
 
 -- the same with a token in channel 1 before the first cycle, here cycle 1: it is full at once, and its token may be
@@ -50,13 +50,13 @@ piped = record counter { links = (record { producer = 1; consumer = 0; capacity 
 piped-held : held piped (opening_marking piped 1) 1 ≡ 1
 piped-held = refl
 
-piped-entered : entered piped (opening_marking piped 1) 1 ≡ 2
+piped-entered : marked_entered piped (opening_marking piped 1) 1 ≡ 2
 piped-entered = refl
 
-piped-full : refusal piped (opening_marking piped 1) (Fire 1) ≡ Some (Full 1 1)
+piped-full : marked_refusal piped (opening_marking piped 1) (Fire 1) ≡ Some (Full 1 1)
 piped-full = refl
 
-piped-latch : refusal piped (opening_marking piped 1) (Latch 1) ≡ None
+piped-latch : marked_refusal piped (opening_marking piped 1) (Latch 1) ≡ None
 piped-latch = refl
 
 -- each cause for which the counter's `latch` and `fire` can be refused
@@ -64,16 +64,16 @@ piped-latch = refl
 abbrev start : Marking
 start = opening_marking counter 0
 
-latch-stranger : refusal counter start (Latch 2) ≡ Some Stranger
+latch-stranger : marked_refusal counter start (Latch 2) ≡ Some Stranger
 latch-stranger = refl
 
-latch-no-token : refusal counter start (Latch 1) ≡ Some (NoToken 1)
+latch-no-token : marked_refusal counter start (Latch 1) ≡ Some (NoToken 1)
 latch-no-token = refl
 
-fire-once : refusal counter start (Fire 1) ≡ None
+fire-once : marked_refusal counter start (Fire 1) ≡ None
 fire-once = refl
 
-fire-twice : refusal counter (after counter start (Fire 1)) (Fire 1) ≡ Some Fired
+fire-twice : marked_refusal counter (after counter start (Fire 1)) (Fire 1) ≡ Some Fired
 fire-twice = refl
 
 latch-twice : replayed_from counter 1 start (Some (Fire 1) ∷ Some (Latch 1) ∷ Some (Latch 1) ∷ []) ≡ Err (record { step = 3; cause = Latched })
@@ -95,13 +95,13 @@ after-the-end = refl
 
 -- ---- finishing
 
-finish-stranger : refusal counter start (Finish 3) ≡ Some Stranger
+finish-stranger : marked_refusal counter start (Finish 3) ≡ Some Stranger
 finish-stranger = refl
 
-finish-unfired : refusal counter start (Finish 0) ≡ Some (Unfired 1)
+finish-unfired : marked_refusal counter start (Finish 0) ≡ Some (Unfired 1)
 finish-unfired = refl
 
-finish-needs : refusal counter (after counter start (Fire 1)) (Finish 0) ≡ Some (NeedsInput 0)
+finish-needs : marked_refusal counter (after counter start (Fire 1)) (Finish 0) ≡ Some (NeedsInput 0)
 finish-needs = refl
 
 -- ---- a unit whose output depends on both of its inputs: the unit 0, sources 1 and 2, a tray 3
@@ -117,7 +117,7 @@ adder =
       end = 1;
     }
 
-needs-first : refusal adder (opening_marking adder 0) (Fire 2) ≡ Some (NeedsInput 0)
+needs-first : marked_refusal adder (opening_marking adder 0) (Fire 2) ≡ Some (NeedsInput 0)
 needs-first = refl
 
 needs-second : replayed_from adder 1 (opening_marking adder 0) (Some (Fire 0) ∷ Some (Latch 0) ∷ Some (Fire 2) ∷ []) ≡ Err (record { step = 3; cause = NeedsInput 1 })
@@ -142,13 +142,13 @@ served =
       end = 2;
     }
 
-serve-stranger : refusal served (opening_marking served 0) (Serve 0 2) ≡ Some Stranger
+serve-stranger : marked_refusal served (opening_marking served 0) (Serve 0 2) ≡ Some Stranger
 serve-stranger = refl
 
-serve-no-memory : refusal served (opening_marking served 0) (Serve 1 0) ≡ Some Stranger
+serve-no-memory : marked_refusal served (opening_marking served 0) (Serve 1 0) ≡ Some Stranger
 serve-no-memory = refl
 
-serve-unfired : refusal served (opening_marking served 0) (Serve 0 0) ≡ Some (Unfired 6)
+serve-unfired : marked_refusal served (opening_marking served 0) (Serve 0 0) ≡ Some (Unfired 6)
 serve-unfired = refl
 
 -- the reader comes before the writer
@@ -191,10 +191,10 @@ at_once =
       end = 2;
     }
 
-at-once-unfired : refusal at_once (opening_marking at_once 0) (Serve 0 0) ≡ Some (Unfired 6)
+at-once-unfired : marked_refusal at_once (opening_marking at_once 0) (Serve 0 0) ≡ Some (Unfired 6)
 at-once-unfired = refl
 
-at-once-stranger : refusal at_once (opening_marking at_once 0) (Serve 0 2) ≡ Some Stranger
+at-once-stranger : marked_refusal at_once (opening_marking at_once 0) (Serve 0 2) ≡ Some Stranger
 at-once-stranger = refl
 
 -- its tokens are given: the writer is due
@@ -219,18 +219,18 @@ read-only-order = refl
 
 -- `serve` of a reader that isn't served isn't refused as `Stranger`, neither before its word is given nor when no port
 -- is due
-not-a-stranger : refusal at_once (opening_marking at_once 0) (Serve 0 0) ≡ Some Stranger → ⊥
+not-a-stranger : marked_refusal at_once (opening_marking at_once 0) (Serve 0 0) ≡ Some Stranger → ⊥
 not-a-stranger said = let is : ◌≡◌ {A = Option StepRefusal} (Some (Unfired 6)) (Some Stranger) = said in cc
 
-not-a-stranger-alone : refusal read_only (record (opening_marking read_only 0) { given = false ∷ false ∷ false ∷ false ∷ false ∷ false ∷ true ∷ [] }) (Serve 0 0) ≡ Some Stranger → ⊥
+not-a-stranger-alone : marked_refusal read_only (record (opening_marking read_only 0) { given = false ∷ false ∷ false ∷ false ∷ false ∷ false ∷ true ∷ [] }) (Serve 0 0) ≡ Some Stranger → ⊥
 not-a-stranger-alone said = let is : ◌≡◌ {A = Option StepRefusal} (Some (Order 1)) (Some Stranger) = said in cc
 
 -- a token isn't given before a need is taken
-not-before-its-needs : refusal adder (opening_marking adder 0) (Fire 2) ≡ None → ⊥
+not-before-its-needs : marked_refusal adder (opening_marking adder 0) (Fire 2) ≡ None → ⊥
 not-before-its-needs said = let is : ◌≡◌ {A = Option StepRefusal} (Some (NeedsInput 0)) None = said in cc
 
 -- a writer isn't served before a reader of old words
-not-the-writer-first : refusal served (after served (opening_marking served 0) (Fire 6)) (Serve 0 1) ≡ None → ⊥
+not-the-writer-first : marked_refusal served (after served (opening_marking served 0) (Fire 6)) (Serve 0 1) ≡ None → ⊥
 not-the-writer-first said = let is : ◌≡◌ {A = Option StepRefusal} (Some (Order 0)) None = said in cc
 
 -- a queue doesn't get longer than its capacity

@@ -4,7 +4,7 @@ use Rattle.std.specs.Prelude.{All}
 use Rattle.gg_net.specs.declared.event.Event.TheVariants.{Latch, Fire, Finish}
 use Rattle.gg_net.specs.declared.event.StepRefusal.TheVariants.{Unfired, NeedsInput, NoToken, Full}
 use Rattle.gg_net.specs.Refusal.{Turn}
-use Rattle.gg_net.specs.markings.Marking.{Link, Layout, opening_marking, held, refusal, after}
+use Rattle.gg_net.specs.markings.Marking.{Link, Layout, opening_marking, held, marked_refusal, after}
 use Rattle.gg_net.specs.markings.Counts.{counts_of, early, CanRun, IsAllowed, Flows}
 use Rattle.gg_net.specs.markings.Measure.{left, all_dues}
 use Rattle.gg_net.specs.markings.Leads.{Leads, end_marking}
@@ -126,21 +126,21 @@ piped-held : held (piped 1) (end_marking (piped 1)) 0 ≡ 1
 piped-held = refl
 
 -- at capacity 1 its room is taken until then
-piped-full : refusal (piped 1) (opening_marking (piped 1) 3) (Fire 0) ≡ Some (Full 0 1)
+piped-full : marked_refusal (piped 1) (opening_marking (piped 1) 3) (Fire 0) ≡ Some (Full 0 1)
 piped-full = refl
 
 -- ---- without room nothing goes on
 
-no-room-fire : refusal (fed 0) (opening_marking (fed 0) 0) (Fire 0) ≡ Some (Full 0 0)
+no-room-fire : marked_refusal (fed 0) (opening_marking (fed 0) 0) (Fire 0) ≡ Some (Full 0 0)
 no-room-fire = refl
 
-no-room-latch : refusal (fed 0) (opening_marking (fed 0) 0) (Latch 0) ≡ Some (NoToken 0)
+no-room-latch : marked_refusal (fed 0) (opening_marking (fed 0) 0) (Latch 0) ≡ Some (NoToken 0)
 no-room-latch = refl
 
-no-room-finish : refusal (fed 0) (opening_marking (fed 0) 0) (Finish 0) ≡ Some (Unfired 0)
+no-room-finish : marked_refusal (fed 0) (opening_marking (fed 0) 0) (Finish 0) ≡ Some (Unfired 0)
 no-room-finish = refl
 
-no-room-finish-tray : refusal (fed 0) (opening_marking (fed 0) 0) (Finish 1) ≡ Some (NeedsInput 0)
+no-room-finish-tray : marked_refusal (fed 0) (opening_marking (fed 0) 0) (Finish 1) ≡ Some (NeedsInput 0)
 no-room-finish-tray = refl
 
 -- ---- counts that can't come up: more is taken than was put

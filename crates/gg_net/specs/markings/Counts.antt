@@ -32,8 +32,8 @@ early layout c = and_one 0 (link_at layout c).piped
 abbrev pub counts_of : Layout → Marking → Counts
 counts_of layout marking =
     record {
-      puts = λ c. marks.puts layout marking c;
-      takes = λ c. marks.takes layout marking c;
+      puts = λ c. marks.marked_puts layout marking c;
+      takes = λ c. marks.marked_takes layout marking c;
       cycles = λ m. value_at marking.cycles m;
       serves = λ m. dues layout m * value_at marking.cycles m + value_at marking.served m;
     }

@@ -5,7 +5,7 @@ use Rattle.std.specs.Prelude.{ℕ, suc, List, [], ◌∷◌, Option, Some, None,
 use Rattle.gg_net.specs.declared.event.Event.{Event}
 use Rattle.gg_net.specs.declared.event.StepRefusal.{StepRefusal}
 use Rattle.gg_net.specs.declared.event.StepRefusal.TheVariants.{Stranger}
-use Rattle.gg_net.specs.markings.Marking.{Layout, Marking, refusal, after}
+use Rattle.gg_net.specs.markings.Marking.{Layout, Marking, marked_refusal, after}
 
 -- A step that was refused: its number, from 1 on, and why.
 pub record Stopped : Type 0 where
@@ -15,7 +15,7 @@ pub record Stopped : Type 0 where
 -- why a step is refused; one that isn't an event is refused as a stranger
 abbrev pub step_refusal : Layout → Marking → Option Event → Option StepRefusal
 step_refusal layout marking None = Some Stranger
-step_refusal layout marking (Some event) = refusal layout marking event
+step_refusal layout marking (Some event) = marked_refusal layout marking event
 
 -- the marking after a step; one that isn't an event changes nothing
 abbrev pub after_step : Layout → Marking → Option Event → Marking

@@ -3,16 +3,16 @@
 -- another).
 use Rattle.std.specs.Prelude.{◌≡◌, List, [], ◌∷◌, None, false, length, replicate}
 use Rattle.gg_net.specs.declared.event.Event.{Event}
-use Rattle.gg_net.specs.markings.Marking.{Layout, Marking, refusal, after}
+use Rattle.gg_net.specs.markings.Marking.{Layout, Marking, marked_refusal, after}
 
 -- these events, one after another, are each free and lead from one marking to another
 abbrev pub Leads : Layout → Marking → List Event → Marking → Type 0
 Leads layout old [] new = new ≡ old
-Leads layout old (event ∷ events) new = (refusal layout old event ≡ None) × Leads layout (after layout old event) events new
+Leads layout old (event ∷ events) new = (marked_refusal layout old event ≡ None) × Leads layout (after layout old event) events new
 
 -- no event can be done
 abbrev pub IsStuck : Layout → Marking → Type 0
-IsStuck layout marking = (event : Event) → refusal layout marking event ≡ None → ⊥
+IsStuck layout marking = (event : Event) → marked_refusal layout marking event ≡ None → ⊥
 
 -- after the last cycle
 abbrev pub end_marking : Layout → Marking

@@ -64,20 +64,20 @@ opening_marking layout begin =
     }
 
 -- the numbers of tokens that were put into a channel, have entered it, were taken from it, and are held
-abbrev pub puts : Layout → Marking → ℕ → ℕ
-puts layout marking c = and_one (value_at marking.cycles (link_at layout c).producer) (is_set marking.given c)
+abbrev pub marked_puts : Layout → Marking → ℕ → ℕ
+marked_puts layout marking c = and_one (value_at marking.cycles (link_at layout c).producer) (is_set marking.given c)
 
 -- the tokens that have entered: those that were put, and the one that a piped channel opens with
-abbrev pub entered : Layout → Marking → ℕ → ℕ
-entered layout marking c = and_one (puts layout marking c) (link_at layout c).piped
+abbrev pub marked_entered : Layout → Marking → ℕ → ℕ
+marked_entered layout marking c = and_one (marked_puts layout marking c) (link_at layout c).piped
 
 -- the tokens that were taken: one for each cycle before the consumer's own, and that of its own if it was taken
-abbrev pub takes : Layout → Marking → ℕ → ℕ
-takes layout marking c = and_one (value_at marking.cycles (link_at layout c).consumer) (is_set marking.taken c)
+abbrev pub marked_takes : Layout → Marking → ℕ → ℕ
+marked_takes layout marking c = and_one (value_at marking.cycles (link_at layout c).consumer) (is_set marking.taken c)
 
 -- the tokens in the queue: those that have entered and weren't taken
 abbrev pub held : Layout → Marking → ℕ → ℕ
-held layout marking c = entered layout marking c - takes layout marking c
+held layout marking c = marked_entered layout marking c - marked_takes layout marking c
 
 -- ---- when a step is refused
 
@@ -108,8 +108,8 @@ marked_facts layout marking =
     }
 
 -- why an event is refused: the first of its conditions that fails, by the table of steps
-abbrev pub refusal : Layout → Marking → Event → Option StepRefusal
-refusal layout marking event = table.refusal (marked_facts layout marking) event
+abbrev pub marked_refusal : Layout → Marking → Event → Option StepRefusal
+marked_refusal layout marking event = table.refusal (marked_facts layout marking) event
 
 -- ---- what a step does
 

@@ -14,7 +14,7 @@ use Rattle.gg_net.specs.Kept.{Kept, list_at}
 use Rattle.gg_net.specs.Net.{IsOpening, opening_net}
 use Rattle.gg_net.specs.Refusal as table
 use Rattle.gg_net.specs.Step.{facts_of, Step}
-use Rattle.gg_net.specs.markings.Marking.{Layout, opening_marking, refusal}
+use Rattle.gg_net.specs.markings.Marking.{Layout, opening_marking, marked_refusal}
 use Rattle.gg_net.specs.markings.Goes.{Stopped, replayed_from}
 use Rattle.gg_net.specs.markings.Fits.{HasLayout, marking_of}
 use Rattle.gg_net.specs.markings.Steps.{IsStep, Steps, StopsAt}
@@ -26,7 +26,7 @@ RefusalsAreMarked =
     -- The network is kept and has this layout.
     → Kept flow net → HasLayout (frame_of net) layout
     -- The table says the same of the network and of its marking.
-    → table.refusal (facts_of net) event ≡ refusal layout (marking_of net) event
+    → table.refusal (facts_of net) event ≡ marked_refusal layout (marking_of net) event
 
 -- Before the first cycle the marking is the opening marking.
 abbrev pub OpensMarked : Type 0

@@ -3,7 +3,7 @@
 -- Dijkstra, "A Discipline of Programming" (1976) (a number that each step lowers).
 use Rattle.std.specs.Prelude.{◌≡◌, ◌↔◌, ℕ, suc, ◌+◌, ◌-◌, ◌*◌, ◌<◌, ◌≤◌, ◌++◌, List, [], ◌∷◌, Option, None, Ok, length}
 use Rattle.gg_net.specs.declared.event.Event.{Event}
-use Rattle.gg_net.specs.markings.Marking.{Layout, Marking, opening_marking, refusal, after}
+use Rattle.gg_net.specs.markings.Marking.{Layout, Marking, opening_marking, marked_refusal, after}
 use Rattle.gg_net.specs.markings.Goes.{replayed_from}
 use Rattle.gg_net.specs.markings.Counts.{Counts, counts_of, HasBegun, IsAllowed, AreAtMost, AreSame, Raises, CanRun, IsMarkingOf}
 use Rattle.gg_net.specs.markings.Measure.{left, all_dues}
@@ -18,7 +18,7 @@ OfFreeEvents Holds =
     -- The layout can run, and the marking is one of it, with allowed counts.
     → CanRun layout → IsMarkingOf layout old → IsAllowed layout (counts_of layout old)
     -- The event may be done.
-    → refusal layout old event ≡ None
+    → marked_refusal layout old event ≡ None
     -- This holds of it.
     → Holds layout old event
 

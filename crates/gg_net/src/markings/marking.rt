@@ -7,7 +7,7 @@ ghost use Rattle.gg_net.specs.Network.{Network, Frame, queue_at, frame_of};
 ghost use Rattle.gg_net.specs.Network as network;
 ghost use Rattle.gg_net.specs.Kept.{IsWired, Kept};
 ghost use Rattle.gg_net.specs.Step.{Step};
-ghost use Rattle.gg_net.specs.markings.Marking.{Layout, puts, takes, held, after};
+ghost use Rattle.gg_net.specs.markings.Marking.{Layout, marked_puts, marked_takes, held, after};
 ghost use Rattle.gg_net.specs.markings.Fits.{HasLayout, marking_of};
 ghost use Rattle.gg_net.specs.markings.LayoutOf.{layout_of};
 ghost use Rattle.gg_net.specs.markings.Steps.{IsStep, Steps};
@@ -32,8 +32,8 @@ pub fn opens_with_marking()
 /// The counts of a network and the lengths of its queues are those of its marking. The newest token of a queue is the
 /// last of the values of its channel's list that have entered so far.
 pub fn counts_by_marking()
-    ensures puts { (net : Network) (layout : Layout) (c : ℕ) → HasLayout (frame_of net) layout → c < length net.wires → network.puts net c ≡ puts layout (marking_of net) c }
-    ensures takes { (net : Network) (layout : Layout) (c : ℕ) → HasLayout (frame_of net) layout → c < length net.wires → network.takes net c ≡ takes layout (marking_of net) c }
+    ensures puts { (net : Network) (layout : Layout) (c : ℕ) → HasLayout (frame_of net) layout → c < length net.wires → network.puts net c ≡ marked_puts layout (marking_of net) c }
+    ensures takes { (net : Network) (layout : Layout) (c : ℕ) → HasLayout (frame_of net) layout → c < length net.wires → network.takes net c ≡ marked_takes layout (marking_of net) c }
     ensures held { (flow : Flow) (net : Network) (layout : Layout) (c : ℕ) → Kept flow net → HasLayout (frame_of net) layout
         → c < length net.wires → length (queue_at net.queues c) ≡ held layout (marking_of net) c }
     ensures newest { NewestIsLastEntered }
