@@ -7,8 +7,9 @@ use Rattle.gg_ast.specs.declared.statement.Field.{Field}
 use Rattle.gg_ast.specs.declared.statement.Stmt.{Stmt}
 use Rattle.gg_ast.specs.declared.statement.StmtKind.{StmtKind}
 use Rattle.gg_ast.specs.declared.statement.StmtKind.TheVariants.{Wire, Node, Register, Instance, Memory, Connect, Invalid, Skip, Stop, Report}
-use Rattle.gg_ast.specs.Names.{IsPortNamed, AreNamesOfField, AreNamesOfKind, AreNamesOfStatement, AreNamesOfModule, AreNamesOfCircuit}
-use Rattle.gg_ast.specs.Tree.{ModuleTree, CircuitTree, on_last, with_port, with_statement, with_field, statement_with_field, module_with_field}
+use Rattle.gg_ast.specs.inside.Names.{IsPortNamed, AreNamesOfField, AreNamesOfKind, AreNamesOfStatement, AreNamesOfModule, AreNamesOfCircuit}
+use Rattle.gg_ast.specs.Tree.{ModuleTree, CircuitTree}
+use Rattle.gg_ast.specs.inside.Tree.{on_last, with_port, with_statement, with_field, statement_with_field, module_with_field}
 
 pub named-port : (port : Port) → IsPortNamed port → (m : ModuleTree) → AreNamesOfModule m → AreNamesOfModule (with_port port m)
 named-port port h m names = record {

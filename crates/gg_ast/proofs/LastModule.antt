@@ -8,7 +8,8 @@ use Rattle.gg_ast.specs.declared.statement.Stmt.{Stmt}
 use Rattle.gg_ast.specs.declared.statement.StmtKind.{StmtKind}
 use Rattle.gg_ast.specs.declared.statement.StmtKind.TheVariants.{Wire, Node, Register, Instance, Memory, Connect, Invalid, Skip, Stop, Report}
 use Rattle.gg_ast.specs.Row.{Numbered, numbered, CircuitRow, ModuleRow, MemoryRow}
-use Rattle.gg_ast.specs.Tree.{ModuleTree, CircuitTree, names_of, on_last, EndsIn, with_port, with_statement, with_field, statement_with_field, module_with_field, IsMemory, IsMemoryStatement, EndsInMemory, IsOpenToPorts, IsOpenToFields}
+use Rattle.gg_ast.specs.Tree.{ModuleTree, CircuitTree, names_of}
+use Rattle.gg_ast.specs.inside.Tree.{on_last, EndsIn, with_port, with_statement, with_field, statement_with_field, module_with_field, IsMemory, IsMemoryStatement, EndsInMemory, IsOpenToPorts, IsOpenToFields}
 use Rattle.gg_ast.specs.Rows.{port_row, field_row, kind_rows, statement_rows, rows_of_statements, module_rows, rows_of_modules, rows_of}
 
 -- a write at the last place changes the last element

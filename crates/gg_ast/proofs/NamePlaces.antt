@@ -10,7 +10,8 @@ use Rattle.std.specs.Bool.{Decides}
 use Rattle.std.specs.Str.{bytes_eq}
 use Rattle.std.proofs.lemmas.Slice.Eq.{bytes_eq-Decides}
 use Rattle.std.proofs.lemmas.Option.{slice_get_within}
-use Rattle.gg_ast.specs.Places.{IsFirstOf, Lacks, place_of, TellsPlaces}
+use Rattle.gg_ast.specs.inside.Places.{IsFirstOf, Lacks, TellsPlaces}
+use Rattle.gg_ast.specs.Places.{place_of}
 
 -- if the head is another name, the first place in the tail is one further in the whole list
 first_further : (name n : List ℕ) (ns : List (List ℕ)) (j : ℕ) → (name ≡ n → ⊥) → IsFirstOf ns name j → IsFirstOf (n ∷ ns) name (suc j)

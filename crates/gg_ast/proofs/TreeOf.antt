@@ -13,7 +13,8 @@ use Rattle.gg_ast.specs.declared.statement.StmtKind.TheVariants.{Wire, Node, Reg
 use Rattle.gg_ast.specs.Row.{Row, Numbered, numbered, VersionRow, CircuitRow, ModuleRow, PortRow, WireRow, NodeRow, RegisterRow, RegisterResetRow, RegisterOpenRow, ResetRow, InstanceRow, MemoryRow, FieldRow, ConnectRow, InvalidRow, SkipRow, StopRow, ReportRow}
 use Rattle.gg_ast.specs.Rows.{port_row, field_row, kind_rows, statement_rows, rows_of_statements, module_rows, rows_of_modules, rows_of}
 use Rattle.gg_ast.specs.Term.{Term}
-use Rattle.gg_ast.specs.Tree.{ModuleTree, CircuitTree, empty_circuit}
+use Rattle.gg_ast.specs.Tree.{ModuleTree, CircuitTree}
+use Rattle.gg_ast.specs.inside.Tree.{empty_circuit}
 
 -- what the rows after some place make: fields and a reset of a statement that comes before them, and then the rest
 record Behind : Type 0 where

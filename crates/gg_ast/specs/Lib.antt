@@ -1,9 +1,8 @@
 pub mod Term
-pub mod Steps
-pub mod TermOf
 pub mod Row
 pub mod Tree
 pub mod Rows
 pub mod Places
 pub mod Names
 pub mod Words
+pub mod inside

@@ -1,25 +1,8 @@
 -- The place of a name in a list of names.
-use Rattle.std.specs.Prelude.{◌≡◌, ◌≢◌, ℕ, ◌+◌, ◌<◌, List, [], ◌∷◌, Option, None, Some, String, option_map, slice_get, if◌then◌else◌}
-use Rattle.std.specs.HashMap.{HashMap, get_by_text}
+use Rattle.std.specs.Prelude.{ℕ, ◌+◌, List, [], ◌∷◌, Option, None, Some, option_map, if◌then◌else◌}
 use Rattle.std.specs.Str.{bytes_eq}
-use Rattle.std.specs.declared.alloc.Global.{Global}
-use Rattle.std.specs.declared.hash.FoldHasher.{FoldHasher}
-use Rattle.std.specs.declared.hash.BuildHasherDefault.{BuildHasherDefault}
-
--- `i` is the place of the first name in the list that equals `name`
-pub record IsFirstOf (names : List (List ℕ)) (name : List ℕ) (i : ℕ) : Type 0 where
-  pub named : slice_get names i ≡ Some name
-  pub first : (k : ℕ) → k < i → slice_get names k ≢ Some name
-
--- the list doesn't have the name
-abbrev pub Lacks : List (List ℕ) → List ℕ → Type 0
-Lacks names name = (k : ℕ) → slice_get names k ≢ Some name
 
 -- the place of the first name that equals `name`, or none
 abbrev pub place_of : List ℕ → List (List ℕ) → Option ℕ
 place_of name [] = None
 place_of name (n ∷ ns) = if bytes_eq name n then Some 0 else option_map (λ i. i + 1) (place_of name ns)
-
--- a table from names to places: a look-up by any name gives the place of the first in the list
-abbrev pub TellsPlaces : List (List ℕ) → HashMap (String Global) ℕ (BuildHasherDefault FoldHasher) → Type 0
-TellsPlaces names places = (q : List ℕ) → get_by_text places q ≡ place_of q names

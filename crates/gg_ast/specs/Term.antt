@@ -1,6 +1,6 @@
 -- An expression without pointers. Clauses and definitions use it for expressions (FIRRTL Specification, "Expressions",
 -- "Primitive Operations").
-use Rattle.std.specs.Prelude.{ℕ, ◌+◌}
+use Rattle.std.specs.Prelude.{ℕ}
 use Rattle.gg_ast.specs.declared.expression.Literal.{Literal}
 use Rattle.gg_ast.specs.declared.expression.Reference.{Reference}
 use Rattle.gg_bits.specs.declared.ops.Op1.{Op1}
@@ -15,12 +15,3 @@ pub data Term : Type 0 where
   BinaryTerm : Op2 → Term → Term → Term
   FixedTerm : OpN → Term → ℕ → ℕ → Term
   MuxTerm : Term → Term → Term → Term
-
--- how many operations and leaves a term has; a recursion over the term decreases it
-abbrev pub size_of : Term → ℕ
-size_of (NamedTerm r) = 1
-size_of (ConstantTerm l) = 1
-size_of (UnaryTerm o a) = size_of a + 1
-size_of (BinaryTerm o a b) = size_of a + size_of b + 1
-size_of (FixedTerm o a n m) = size_of a + 1
-size_of (MuxTerm c a b) = size_of c + size_of a + size_of b + 1

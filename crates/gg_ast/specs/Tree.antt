@@ -1,11 +1,8 @@
 -- What a contract sees of a circuit: a record of plain lists, in the order of the file (FIRRTL Specification,
 -- "Circuits and Modules").
-use Rattle.std.specs.Prelude.{◌≡◌, ℕ, List, [], ◌∷◌, ◌++◌, map, slice_index_or}
+use Rattle.std.specs.Prelude.{ℕ, List, [], map, slice_index_or}
 use Rattle.gg_ast.specs.declared.module.Port.{Port}
-use Rattle.gg_ast.specs.declared.statement.Field.{Field}
 use Rattle.gg_ast.specs.declared.statement.Stmt.{Stmt}
-use Rattle.gg_ast.specs.declared.statement.StmtKind.{StmtKind}
-use Rattle.gg_ast.specs.declared.statement.StmtKind.TheVariants.{Memory}
 
 -- a module: the line on which it begins, its name, its ports and its statements
 pub record ModuleTree : Type 0 where
@@ -28,10 +25,6 @@ empty_module line name = record { line = line; name = name; ports = []; statemen
 abbrev pub module_at : List ModuleTree → ℕ → ModuleTree
 module_at modules k = slice_index_or modules k (empty_module 0 [])
 
--- a circuit without modules
-abbrev pub empty_circuit : ℕ → List ℕ → CircuitTree
-empty_circuit line name = record { line = line; name = name; modules = [] }
-
 -- the modules' names, in the order of the file
 abbrev pub names_of : List ModuleTree → List (List ℕ)
 names_of modules = map (λ m. m.name) modules
@@ -39,75 +32,3 @@ names_of modules = map (λ m. m.name) modules
 -- the names of a circuit's modules, in order
 abbrev pub module_names : CircuitTree → List (List ℕ)
 module_names circuit = names_of circuit.modules
-
--- a module with one more port
-abbrev pub with_port : Port → ModuleTree → ModuleTree
-with_port port m = record m { ports = m.ports ++ port ∷ [] }
-
--- a module with one more statement
-abbrev pub with_statement : Stmt → ModuleTree → ModuleTree
-with_statement statement m = record m { statements = m.statements ++ statement ∷ [] }
-
--- the list, with the last element changed
-abbrev pub on_last : {A : Type 0} → (A → A) → List A → List A
-on_last f [] = []
-on_last f (m ∷ []) = f m ∷ []
-on_last f (m ∷ (n ∷ ms)) = m ∷ on_last f (n ∷ ms)
-
--- the list has a last element, for which this holds
-abbrev pub EndsIn : {A : Type 0} → (A → Type 0) → List A → Type 0
-EndsIn P [] = ⊥
-EndsIn P (m ∷ []) = P m
-EndsIn P (m ∷ (n ∷ ms)) = EndsIn P (n ∷ ms)
-
--- a memory with one more field; any other statement as it is
-abbrev pub with_field : Field → StmtKind → StmtKind
-with_field field (Memory name fields) = Memory name (fields ++ field ∷ [])
-with_field field other = other
-
--- a statement whose memory has one more field; a statement of another kind is as it was
-abbrev pub statement_with_field : Field → Stmt → Stmt
-statement_with_field field s = record s { kind = with_field field s.kind }
-
--- a module whose last statement has one more field
-abbrev pub module_with_field : Field → ModuleTree → ModuleTree
-module_with_field field m = record m { statements = on_last (statement_with_field field) m.statements }
-
--- a statement of this kind declares a memory
-abbrev pub IsMemory : StmtKind → Type 0
-IsMemory (Memory name fields) = Unit {0}
-IsMemory other = ⊥
-
--- the statement declares a memory
-abbrev pub IsMemoryStatement : Stmt → Type 0
-IsMemoryStatement s = IsMemory s.kind
-
--- the module has statements, and the last of them declares a memory
-abbrev pub EndsInMemory : ModuleTree → Type 0
-EndsInMemory m = EndsIn IsMemoryStatement m.statements
-
--- a circuit with one more module
-abbrev pub add_module : CircuitTree → ModuleTree → CircuitTree
-add_module circuit m = record circuit { modules = circuit.modules ++ m ∷ [] }
-
--- a circuit whose last module has one more port
-abbrev pub add_port : CircuitTree → Port → CircuitTree
-add_port circuit port = record circuit { modules = on_last (with_port port) circuit.modules }
-
--- a circuit whose last module has one more statement
-abbrev pub add_statement : CircuitTree → Stmt → CircuitTree
-add_statement circuit statement = record circuit { modules = on_last (with_statement statement) circuit.modules }
-
--- a circuit whose last statement has one more field
-abbrev pub add_field : CircuitTree → Field → CircuitTree
-add_field circuit field = record circuit { modules = on_last (module_with_field field) circuit.modules }
-
--- the last statement of the last module is a memory, so a field may follow
-abbrev pub IsOpenToFields : List ModuleTree → Type 0
-IsOpenToFields modules = EndsIn EndsInMemory modules
-
--- the last module has no statements yet, so a port may follow
-abbrev pub IsOpenToPorts : List ModuleTree → Type 0
-IsOpenToPorts [] = ⊥
-IsOpenToPorts (m ∷ []) = m.statements ≡ []
-IsOpenToPorts (m ∷ (n ∷ ms)) = IsOpenToPorts (n ∷ ms)

@@ -1,8 +1,11 @@
 //! The circuit and its table of modules.
 ghost use Rattle.std.specs.Prelude.{◌≡◌, ◌≢◌, ℕ, ◌+◌, ◌<◌, ◌≤◌, ◌^◌, [], ◌∷◌, ◌++◌, length, is_ok, if◌then◌else◌, OnOk, OnErr, List, IfSome, IfNone};
-ghost use Rattle.gg_ast.specs.Tree.{empty_circuit, empty_module, module_names, add_module, add_port, add_statement, add_field, IsMemory, IsOpenToPorts, IsOpenToFields};
-ghost use Rattle.gg_ast.specs.Names.{IsName, IsPortNamed, AreNamesOfField, AreNamesOfStatement, AreNamesOfCircuit};
-ghost use Rattle.gg_ast.specs.Places.{place_of, IsFirstOf, Lacks, TellsPlaces};
+ghost use Rattle.gg_ast.specs.inside.Tree.{empty_circuit, add_module, add_port, add_statement, add_field, IsMemory, IsOpenToPorts, IsOpenToFields};
+ghost use Rattle.gg_ast.specs.Tree.{empty_module, module_names};
+ghost use Rattle.gg_ast.specs.Names.{IsName};
+ghost use Rattle.gg_ast.specs.inside.Names.{IsPortNamed, AreNamesOfField, AreNamesOfStatement, AreNamesOfCircuit};
+ghost use Rattle.gg_ast.specs.Places.{place_of};
+ghost use Rattle.gg_ast.specs.inside.Places.{IsFirstOf, Lacks, TellsPlaces};
 ghost use Rattle.gg_ast.specs.Row.{numbered, CircuitRow, ModuleRow};
 ghost use Rattle.gg_ast.specs.Rows.{rows_of, port_row, field_row, statement_rows};
 
@@ -42,8 +45,8 @@ impl Drop for Circuit {
 impl Model for Circuit {
     ghost use Rattle.std.specs.Prelude.{ℕ};
     ghost use Rattle.gg_ast.specs.Tree.{CircuitTree, names_of};
-    ghost use Rattle.gg_ast.specs.Places.{TellsPlaces};
-    ghost use Rattle.gg_ast.specs.Names.{AreNamesOfCircuit};
+    ghost use Rattle.gg_ast.specs.inside.Places.{TellsPlaces};
+    ghost use Rattle.gg_ast.specs.inside.Names.{AreNamesOfCircuit};
     ghost use Rattle.gg_ast.specs.contracts.expression.Expr as expression;
     ghost use Rattle.std.specs.Coded.{codes};
 

@@ -84,14 +84,15 @@ impl Model for Expr {
     ghost use Rattle.std.specs.Prelude.{List};
     ghost use Rattle.std.specs.Coded.{codes, code_by, coded_list};
     ghost use Rattle.std.proofs.Common.{arith};
-    ghost use Rattle.gg_ast.specs.Term.{Term, size_of};
-    ghost use Rattle.gg_ast.specs.Steps.{Step, steps_of, first_run, first_run-steps_of};
+    ghost use Rattle.gg_ast.specs.Term.{Term};
+    ghost use Rattle.gg_ast.specs.inside.Term.{size_of};
+    ghost use Rattle.gg_ast.specs.inside.Steps.{Step, steps_of, first_run, first_run-steps_of};
 
     ghost Value = { Term };
 
     ghost coded = { code_by (List Step) (coded_list (Prim.hlevel codes)) steps_of first_run first_run-steps_of };
 
-    ghost use Rattle.gg_ast.specs.TermOf.{term_of};
+    ghost use Rattle.gg_ast.specs.inside.TermOf.{term_of};
 
     ghost view = { λ e. term_of e.kind };
 

@@ -1,6 +1,7 @@
 //! Modules and ports (FIRRTL Specification, "Circuits and Modules").
 ghost use Rattle.std.specs.Prelude.{◌≡◌, ◌<◌, length, is_ok, if◌then◌else◌};
-ghost use Rattle.gg_ast.specs.Tree.{empty_module, with_port, with_statement, module_with_field};
+ghost use Rattle.gg_ast.specs.Tree.{empty_module};
+ghost use Rattle.gg_ast.specs.inside.Tree.{with_port, with_statement, module_with_field};
 
 use crate::statement::{Field, Stmt};
 use gg_bits::Name;

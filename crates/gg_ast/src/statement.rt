@@ -1,6 +1,6 @@
 //! Statements (FIRRTL Specification, "Statements", "Memories").
 ghost use Rattle.std.specs.Prelude.{◌≡◌, [], ◌∷◌, ◌++◌, is_ok, if◌then◌else◌};
-ghost use Rattle.gg_ast.specs.Tree.{statement_with_field};
+ghost use Rattle.gg_ast.specs.inside.Tree.{statement_with_field};
 
 use crate::expression::{Expr, Reference};
 use crate::module::GroundType;

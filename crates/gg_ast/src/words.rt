@@ -1,6 +1,6 @@
 //! The words of the grammar: operations, and the first words of lines.
 ghost use Rattle.std.specs.Prelude.{◌≡◌};
-ghost use Rattle.gg_ast.specs.Words.{operation_of, head_words, tail_words, field_words, second_words, keyword_of};
+ghost use Rattle.gg_ast.specs.inside.Words.{operation_of, head_words, tail_words, field_words, second_words, keyword_of};
 ghost use Rattle.gg_bits.specs.Lists.{find_word};
 
 use crate::module::Direction;

@@ -3,8 +3,6 @@ pub mod Shape
 pub mod ResultType
 pub mod Meaning
 pub mod Spelling
-pub mod BadText
-pub mod AddErrorText
 pub mod Limits
 pub mod Lists
-pub mod Firsts
+pub mod inside

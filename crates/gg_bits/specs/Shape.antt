@@ -1,10 +1,9 @@
 -- A shape is a kind and any width: a ground type before its width is checked.
 -- Source: FIRRTL Specification, "Ground Types".
-use Rattle.std.specs.Prelude.{ℕ, ◌^◌, ◌<◌, ℤ, Result, Ok, Err}
+use Rattle.std.specs.Prelude.{ℕ, ◌^◌, ◌<◌, ℤ}
 use Rattle.gg_bits.specs.declared.types.Kind.{Kind}
 use Rattle.gg_bits.specs.declared.types.Kind.TheVariants.{UInt, SInt}
 use Rattle.gg_bits.specs.declared.types.Ty.{Ty}
-use Rattle.gg_bits.specs.declared.types.Bad.{Bad}
 use Rattle.gg_bits.specs.Value.{number_of}
 
 -- A kind and a number of bits. Any number is allowed here, 0 as well.
@@ -27,11 +26,6 @@ sint w = of_kind SInt w
 -- the shape of a type, which is a kind with a width from 1 to 128
 abbrev pub shape : Ty → Shape
 shape ty = of_kind ty.kind ty.width
-
--- the shape of a type that an operation returned
-abbrev pub shape_of : Result Ty Bad → Result Shape Bad
-shape_of (Ok ty) = Ok (shape ty)
-shape_of (Err bad) = Err bad
 
 -- the pattern has no bit beyond the width of s: it is a value of that shape
 abbrev pub Fits : Shape → ℕ → Type 0

@@ -1,7 +1,8 @@
 //! Operations on two values (FIRRTL Specification, "Primitive Operations").
 ghost use Rattle.std.specs.Prelude.{◌≡◌, ◌+◌, ◌-◌, ◌^◌, ◌≤◌, min, true, Ok, IsOk, IfOk};
 ghost use Rattle.gg_bits.specs.Value.{pattern_of};
-ghost use Rattle.gg_bits.specs.Shape.{shape, shape_of, Fits};
+ghost use Rattle.gg_bits.specs.Shape.{shape, Fits};
+ghost use Rattle.gg_bits.specs.inside.Shape.{shape_of};
 ghost use Rattle.gg_bits.specs.ResultType.{kinds2, shape2, type2};
 ghost use Rattle.gg_bits.specs.Meaning.{meaning2, value2};
 

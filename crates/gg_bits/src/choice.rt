@@ -1,6 +1,7 @@
 //! Multiplexers (FIRRTL Specification, "Multiplexers").
 ghost use Rattle.std.specs.Prelude.{◌≡◌, ◌^◌, ◌<◌, ◌≤◌, IfOk, OnOk};
-ghost use Rattle.gg_bits.specs.Shape.{uint, shape, shape_of, Fits};
+ghost use Rattle.gg_bits.specs.Shape.{uint, shape, Fits};
+ghost use Rattle.gg_bits.specs.inside.Shape.{shape_of};
 ghost use Rattle.gg_bits.specs.ResultType.{shape_mux, type_mux};
 ghost use Rattle.gg_bits.specs.Meaning.{value_mux};
 

@@ -1,6 +1,7 @@
 //! The check of a result's width.
 ghost use Rattle.std.specs.Prelude.{◌≡◌, ℕ, min, IfOk};
-ghost use Rattle.gg_bits.specs.Shape.{of_kind, shape, shape_of};
+ghost use Rattle.gg_bits.specs.Shape.{of_kind, shape};
+ghost use Rattle.gg_bits.specs.inside.Shape.{shape_of};
 ghost use Rattle.gg_bits.specs.ResultType.{within};
 
 use crate::types::{Bad, Kind, Ty};

@@ -21,7 +21,7 @@ pub enum AddError {
 
 impl fmt::Display for AddError {
     ghost use Rattle.std.specs.Prelude.{Some};
-    ghost use Rattle.gg_bits.specs.AddErrorText.{error_text};
+    ghost use Rattle.gg_bits.specs.inside.AddErrorText.{error_text};
 
     ghost output = { λ error. Some (error_text error) };
 

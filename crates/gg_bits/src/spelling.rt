@@ -1,6 +1,7 @@
 //! How operations are written (FIRRTL Specification, "Primitive Operations").
 ghost use Rattle.std.specs.Prelude.{◌≡◌};
-ghost use Rattle.gg_bits.specs.Spelling.{text1, text2, text_const, named1, named2, named_const};
+ghost use Rattle.gg_bits.specs.Spelling.{text1, text2, text_const};
+ghost use Rattle.gg_bits.specs.inside.Spelling.{named1, named2, named_const};
 
 use crate::ops::{Op1, Op2, OpN};
 

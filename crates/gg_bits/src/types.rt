@@ -43,7 +43,7 @@ pub enum Bad {
 
 impl fmt::Display for Bad {
     ghost use Rattle.std.specs.Prelude.{Some};
-    ghost use Rattle.gg_bits.specs.BadText.{bad_text};
+    ghost use Rattle.gg_bits.specs.inside.BadText.{bad_text};
 
     ghost output = { λ bad. Some (bad_text bad) };
 

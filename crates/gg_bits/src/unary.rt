@@ -1,7 +1,8 @@
 //! Operations on one value (FIRRTL Specification, "Primitive Operations").
 ghost use Rattle.std.specs.Prelude.{◌≡◌, ◌≤◌, neg_ℤ, Ok, IsOk, IfOk};
 ghost use Rattle.gg_bits.specs.Value.{pattern_of};
-ghost use Rattle.gg_bits.specs.Shape.{shape, shape_of, number, Fits};
+ghost use Rattle.gg_bits.specs.Shape.{shape, number, Fits};
+ghost use Rattle.gg_bits.specs.inside.Shape.{shape_of};
 ghost use Rattle.gg_bits.specs.ResultType.{shape1, type1};
 ghost use Rattle.gg_bits.specs.Meaning.{meaning1, value1};
 

@@ -21,8 +21,9 @@ use Rattle.gg_flat.proofs.StateLemmas.{IsState-opening}
 use Rattle.gg_bits.specs.Shape.{Shape, shape}
 use Rattle.std.proofs.lemmas.Grind.{same_number_lists}
 use Rattle.gg_part.specs.PartRun.{part_row, part_rows}
-use Rattle.gg_bridge.specs.Joined.{globals_behind, HasOrder}
-use Rattle.gg_bridge.specs.All.{Attached, with_bridge, joined_all, joined_states, CanAttach, CanAttachAll, HasInputs, RunsModelFrom, RunsAllFrom}
+use Rattle.gg_bridge.specs.Joined.{globals_behind}
+use Rattle.gg_bridge.specs.inside.Joined.{HasOrder}
+use Rattle.gg_bridge.specs.inside.All.{Attached, with_bridge, joined_all, joined_states, CanAttach, CanAttachAll, HasInputs, RunsModelFrom, RunsAllFrom}
 use Rattle.gg_bridge.proofs.NumberLemmas.{behind, behind-first}
 use Rattle.gg_bridge.proofs.AtLemmas.{long}
 use Rattle.gg_bridge.proofs.FormedLemmas.{whole-formed}

@@ -12,7 +12,8 @@ use Rattle.gg_flat.specs.Circuit.{FlatCircuit, signal_shapes, driver_at}
 use Rattle.gg_flat_tree.specs.Tree.{path_at}
 use Rattle.gg_flat.proofs.ListLemmas.{some-item}
 use Rattle.gg_flat.specs.Renaming.{renamed_register, renamed_memory}
-use Rattle.gg_bridge.specs.Joined.{numbers_behind, place_among, without, globals_behind, held_behind, memories_behind, linked_driver, linked, driver_behind, signal_behind, joined}
+use Rattle.gg_bridge.specs.inside.Joined.{numbers_behind, linked_driver}
+use Rattle.gg_bridge.specs.Joined.{place_among, without, globals_behind, held_behind, memories_behind, linked, driver_behind, signal_behind, joined}
 use Rattle.gg_bits.specs.Lists.{by_number}
 use Rattle.gg_bridge.proofs.NumberLemmas.{length-by, at-first}
 

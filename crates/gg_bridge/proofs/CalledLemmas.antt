@@ -6,8 +6,10 @@ use Rattle.std.proofs.lemmas.Option.{slice_get_within, get_or_from_slice_get}
 use Rattle.std.proofs.lemmas.Slice.Eq.{bytes_eq-Decides}
 use Rattle.gg_flat.specs.Circuit.{FlatCircuit}
 use Rattle.gg_flat.proofs.ListLemmas.{once-apart}
-use Rattle.gg_bridge.specs.Joined.{place_among, HasPlaces}
-use Rattle.gg_bridge.specs.Ports.{is_path_of, first_called, place_by, earlier, picked}
+use Rattle.gg_bridge.specs.Joined.{place_among}
+use Rattle.gg_bridge.specs.inside.Joined.{HasPlaces}
+use Rattle.gg_bridge.specs.Ports.{is_path_of, first_called}
+use Rattle.gg_bridge.specs.inside.Ports.{place_by, earlier, picked}
 
 -- whether a signal's path is this one
 abbrev is_path : List ℕ → Option (List ℕ) → Bool

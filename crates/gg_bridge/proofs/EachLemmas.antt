@@ -8,7 +8,7 @@ use Rattle.gg_flat.specs.Line.{value_at, shape_at}
 use Rattle.gg_flat.specs.Circuit.{FlatCircuit, signal_shapes}
 use Rattle.gg_flat_tree.specs.Tree.{path_at}
 use Rattle.gg_flat.specs.WellFormed.{IsWellFormed}
-use Rattle.gg_bridge.specs.All.{Attached, with_bridge, CanAttach, CanAttachAll, CanAttachEach}
+use Rattle.gg_bridge.specs.inside.All.{Attached, with_bridge, CanAttach, CanAttachAll, CanAttachEach}
 use Rattle.gg_bridge.proofs.NumberLemmas.{left-in}
 use Rattle.gg_bridge.proofs.AtLemmas.{long, shape-old, path-old, path-new}
 use Rattle.gg_bridge.proofs.AllLemmas.{bridge-formed}

@@ -11,10 +11,11 @@ use Rattle.gg_flat.specs.Reads.{Reads, IsPath}
 use Rattle.gg_flat.specs.Order.{IsOrder}
 use Rattle.gg_flat.specs.Settled.{IsInputs}
 use Rattle.gg_flat.specs.WellFormed.{IsWellFormed, MayDrive, IsRegister, IsClock}
-use Rattle.gg_bridge.specs.Model.{IsModel, IsSaid, IsAnswer}
+use Rattle.gg_bridge.specs.Model.{IsModel}
+use Rattle.gg_bridge.specs.inside.Model.{IsSaid, IsAnswer}
 use Rattle.gg_bridge.proofs.FormedLemmas.{copy-source}
 use Rattle.gg_bridge.proofs.RunLemmas.{copy-value}
-use Rattle.gg_bridge.specs.Echo.{echo_piece, echo_state}
+use Rattle.gg_bridge.specs.inside.Echo.{echo_piece, echo_state}
 
 module _ (ty : Ty) where
   abbrev echo : FlatCircuit

@@ -20,7 +20,8 @@ use Rattle.gg_flat_tree.specs.Tree.{path_at}
 use Rattle.gg_flat.specs.WellFormed.{IsWellFormed, MayDrive, IsRegister, IsMemory, IsClock, IsClockedMemory, AreDriven}
 use Rattle.gg_flat.proofs.ListLemmas.{some-item}
 use Rattle.gg_part.specs.Part.{IsPart}
-use Rattle.gg_bridge.specs.Joined.{place_among, without, globals_behind, held_behind, memories_behind, copy_line, linked_driver, driver_behind, joined, placed, CanJoin}
+use Rattle.gg_bridge.specs.Joined.{place_among, without, globals_behind, held_behind, memories_behind, copy_line, driver_behind, joined}
+use Rattle.gg_bridge.specs.inside.Joined.{linked_driver, placed, CanJoin}
 use Rattle.gg_bridge.proofs.ClockLemmas.{own-among, none-among}
 use Rattle.gg_bridge.proofs.NumberLemmas.{Tells, place-tells, place-is, place-of, behind, behind-first, left-is, left-in, left-once}
 use Rattle.gg_bridge.proofs.AtLemmas.{long, many, banks, shape-old, shape-new, driver-old, driver-new, path-old, path-new}

@@ -19,8 +19,9 @@ use Rattle.gg_flat.specs.WellFormed.{IsWellFormed, MayDrive}
 use Rattle.gg_flat.proofs.ListLemmas.{some-item}
 use Rattle.gg_node.specs.Machine.{latch_at, latched_value, latched_values, needs_at}
 use Rattle.gg_node.proofs.EmptyLemmas.{empty-after}
-use Rattle.gg_bridge.specs.Turned.{place_in, turned_driver, turned_signal, turned, turned_back, AreAllPlaces}
-use Rattle.gg_bridge.specs.Model.{IsSaid}
+use Rattle.gg_bridge.specs.Turned.{place_in, turned_driver, turned_signal, turned}
+use Rattle.gg_bridge.specs.inside.Turned.{turned_back, AreAllPlaces}
+use Rattle.gg_bridge.specs.inside.Model.{IsSaid}
 use Rattle.gg_bridge.proofs.NumberLemmas.{place-of}
 
 module _ (model : FlatCircuit) (ins outs : List ℕ) where

@@ -18,7 +18,8 @@ use Rattle.gg_flat.proofs.OrderLemmas.{stands-before, read-before, place-of}
 use Rattle.gg_order.proofs.ReadLemmas.{names_within}
 use Rattle.gg_flat.proofs.RenamedLineLaws.{named-back}
 use Rattle.gg_bridge.specs.Model.{IsModel}
-use Rattle.gg_bridge.specs.Joined.{place_among, without, globals_behind, held_behind, memories_behind, copy_line, left_at, linked_driver, driver_behind, joined, CanJoin}
+use Rattle.gg_bridge.specs.Joined.{place_among, without, globals_behind, held_behind, memories_behind, copy_line, left_at, driver_behind, joined}
+use Rattle.gg_bridge.specs.inside.Joined.{linked_driver, CanJoin}
 use Rattle.gg_bridge.proofs.NumberLemmas.{Tells, place-tells, behind}
 use Rattle.gg_bridge.proofs.PairLemmas.{AllPairs-append, moved-once, moved-cases, in-take, filter-before}
 use Rattle.gg_bridge.proofs.AtLemmas.{long, driver-old, driver-new}

@@ -22,7 +22,8 @@ use Rattle.gg_flat.proofs.ListLemmas.{some-item}
 use Rattle.gg_flat.proofs.TypedLemmas.{has-reader}
 use Rattle.gg_order.proofs.ReadLemmas.{names_within}
 use Rattle.gg_part.specs.Part.{in_whole, IsPart, IsFrom, IsRegisterFrom, IsMemoryFrom, RegisterBelow, MemoryBelow}
-use Rattle.gg_bridge.specs.Joined.{numbers_behind, place_among, without, globals_behind, held_behind, memories_behind, linked_driver, driver_behind, joined, placed, CanJoin}
+use Rattle.gg_bridge.specs.inside.Joined.{numbers_behind, linked_driver, placed, CanJoin}
+use Rattle.gg_bridge.specs.Joined.{place_among, without, globals_behind, held_behind, memories_behind, driver_behind, joined}
 use Rattle.gg_flat.proofs.RenamedLaws.{register-agree, memory-agree}
 use Rattle.gg_bridge.proofs.ClockLemmas.{every_tick, clocks-count, clock-known, clock-same}
 use Rattle.gg_bridge.proofs.NumberLemmas.{Tells, place-tells, behind, behind-first, behind-once}

@@ -7,7 +7,8 @@ use Rattle.std.proofs.lemmas.Grind.{get_or-set_at}
 use Rattle.std.proofs.lemmas.List.Elements.{filter-append}
 use Rattle.std.proofs.lemmas.List.{take_more, append-nil, length-take-le, length-replicate, length-set, get_or-replicate, get_or-set_other}
 use Rattle.gg_flat.specs.Line.{value_at}
-use Rattle.gg_bridge.specs.Joined.{place_among, without, place_at, is_free, HasPlaces}
+use Rattle.gg_bridge.specs.Joined.{place_among, without}
+use Rattle.gg_bridge.specs.inside.Joined.{place_at, is_free, HasPlaces}
 
 -- the first of two places
 abbrev first_of : Option ℕ → Option ℕ → Option ℕ

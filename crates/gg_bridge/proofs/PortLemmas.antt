@@ -1,7 +1,8 @@
 -- The circuit with a bridge at ports that are given by their names.
 use Rattle.std.proofs.Common.{◌≡◌, ℕ, List, map, sym, ◌∙◌, ap, ap₂, subst}
 use Rattle.gg_flat.specs.Circuit.{FlatCircuit}
-use Rattle.gg_bridge.specs.Joined.{CanJoin, joined}
+use Rattle.gg_bridge.specs.inside.Joined.{CanJoin}
+use Rattle.gg_bridge.specs.Joined.{joined}
 use Rattle.gg_bridge.specs.Ports.{first_called, front_of, seen_at, driven_at, joined_at}
 
 pub seen-is : (circuit piece : FlatCircuit) (outs : List ℕ) (names sees : List (List ℕ)) (items seen : List ℕ) → piece ≡ circuit → outs ≡ piece.outs → names ≡ sees → items ≡ map (λ name. first_called piece name outs) names → seen ≡ items → seen ≡ seen_at circuit sees

@@ -28,8 +28,10 @@ use Rattle.gg_part.specs.PartRun.{part_rows, part_ratios}
 use Rattle.gg_part.proofs.RenameLemmas.{part_row-at}
 use Rattle.gg_part.proofs.RunLemmas.{IsRunFrom-part}
 use Rattle.gg_bridge.specs.Model.{IsModel}
-use Rattle.gg_bridge.specs.All.{HasInputs, joined_state}
-use Rattle.gg_bridge.specs.Joined.{without, globals_behind, held_behind, memories_behind, copy_line, linked_driver, driver_behind, joined, placed, CanJoin}
+use Rattle.gg_bridge.specs.inside.All.{HasInputs}
+use Rattle.gg_bridge.specs.All.{joined_state}
+use Rattle.gg_bridge.specs.Joined.{without, globals_behind, held_behind, memories_behind, copy_line, driver_behind, joined}
+use Rattle.gg_bridge.specs.inside.Joined.{linked_driver, placed, CanJoin}
 use Rattle.gg_bridge.proofs.ClockLemmas.{run-own, no-ratios}
 use Rattle.gg_bridge.proofs.NumberLemmas.{place-is, behind, behind-first}
 use Rattle.gg_bridge.proofs.AtLemmas.{long, shape-old, shape-new, driver-old, driver-new}

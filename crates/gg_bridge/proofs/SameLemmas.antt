@@ -8,7 +8,8 @@ use Rattle.gg_flat_tree.specs.Clocked.{clock_at}
 use Rattle.gg_flat.specs.Line.{value_at}
 use Rattle.gg_flat.specs.WellFormed.{IsClock, IsClockedMemory}
 use Rattle.gg_part.specs.Part.{in_whole, NamesBelow, RegisterBelow, MemoryBelow}
-use Rattle.gg_flat.specs.Renaming.{same_numbers, renamed_line, renamed_memory, renamed_register}
+use Rattle.gg_flat.specs.inside.Renaming.{same_numbers}
+use Rattle.gg_flat.specs.Renaming.{renamed_line, renamed_memory, renamed_register}
 use Rattle.gg_flat.proofs.RenamedLineLaws as lines
 use Rattle.gg_flat.proofs.RenamedLaws as things
 

@@ -16,8 +16,10 @@ use Rattle.gg_flat.proofs.ListLemmas.{some-item}
 use Rattle.gg_flat.specs.Renaming.{renamed_register, renamed_memory}
 use Rattle.gg_part.specs.PartRun.{part_state}
 use Rattle.gg_flat.proofs.RenamedLaws.{opening-renamed}
-use Rattle.gg_bridge.specs.Joined.{numbers_behind, held_behind, memories_behind, joined}
-use Rattle.gg_bridge.specs.All.{Attached, joined_all, joined_state, joined_states, with_bridge}
+use Rattle.gg_bridge.specs.inside.Joined.{numbers_behind}
+use Rattle.gg_bridge.specs.Joined.{held_behind, memories_behind, joined}
+use Rattle.gg_bridge.specs.inside.All.{Attached, joined_all, joined_states, with_bridge}
+use Rattle.gg_bridge.specs.All.{joined_state}
 use Rattle.gg_bridge.proofs.AtLemmas.{many, banks, register-old, register-new, memory-old, memory-new}
 
 -- ---- two lists, one behind the other

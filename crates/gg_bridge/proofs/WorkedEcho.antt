@@ -11,13 +11,15 @@ use Rattle.gg_flat.specs.declared.piece.Driver.TheVariants.{Input, Held, Compute
 use Rattle.gg_flat.specs.Circuit.{FlatCircuit, signal_shapes}
 use Rattle.gg_flat.specs.Line.{value_at, shape_at}
 use Rattle.gg_flat_tree.specs.Tree.{path_at}
-use Rattle.gg_flat.specs.Along.{rows_along}
+use Rattle.gg_flat.specs.inside.Along.{rows_along}
 use Rattle.gg_flat.proofs.WorkedCircuits.{eight, nine, node}
 use Rattle.gg_flat.proofs.WorkedMemories.{signal, copy}
 use Rattle.gg_bridge.specs.Model.{IsModel}
-use Rattle.gg_bridge.specs.Joined.{CanJoin, joined}
-use Rattle.gg_bridge.specs.Echo.{echo_piece}
-use Rattle.gg_bridge.specs.Ports.{CanStand, IsAmong, joined_at, seen_at}
+use Rattle.gg_bridge.specs.inside.Joined.{CanJoin}
+use Rattle.gg_bridge.specs.Joined.{joined}
+use Rattle.gg_bridge.specs.inside.Echo.{echo_piece}
+use Rattle.gg_bridge.specs.inside.Ports.{CanStand, IsAmong}
+use Rattle.gg_bridge.specs.Ports.{joined_at, seen_at}
 
 -- `bits(add(r, a), 7, 0)`
 abbrev pub sum : ℕ → ℕ → List Node

@@ -2,7 +2,7 @@
 -- behind them. Each in-signal of the model is a copy of the signal that the bridge sees there, and each input of the circuit that
 -- the bridge drives is a copy of the model's out-signal. What is driven is no input any more, and what is seen no output.
 -- Source: ICCAD 2019 (bridges: models in the host's own code that stand at a target's ports); FIRRTL Specification, "Connects".
-use Rattle.std.specs.Prelude.{◌≡◌, ◌≢◌, ℕ, suc, ◌<◌, List, [], ◌∷◌, ◌++◌, not, ◌==◌, if◌then◌else◌, Bool, nat_lt, ◌&&◌, Option, Some, None, is_none, option_map, unwrap_or, slice_index_or, length, map, filter, Contains, AllPairs}
+use Rattle.std.specs.Prelude.{ℕ, suc, List, [], ◌∷◌, ◌++◌, not, ◌==◌, if◌then◌else◌, Option, Some, None, option_map, unwrap_or, length, map, filter}
 use Rattle.std.specs.List.{list_any, range_with_len}
 use Rattle.gg_bits.specs.Lists.{by_number}
 use Rattle.gg_bits.specs.declared.types.Ty.{Ty}
@@ -11,10 +11,8 @@ use Rattle.gg_flat.specs.declared.line.Op.TheVariants.{Ref}
 use Rattle.gg_flat.specs.declared.piece.Signal.{Signal}
 use Rattle.gg_flat.specs.declared.piece.Driver.{Driver}
 use Rattle.gg_flat.specs.declared.piece.Driver.TheVariants.{Input, Held, MemoryWord, ReadRegister, Computed}
-use Rattle.gg_flat.specs.Line.{value_at, shape_at}
-use Rattle.gg_flat.specs.Circuit.{FlatCircuit, signal_shapes}
-use Rattle.gg_flat.specs.Order.{IsOrder}
-use Rattle.gg_flat_tree.specs.Tree.{path_at}
+use Rattle.gg_flat.specs.Line.{value_at}
+use Rattle.gg_flat.specs.Circuit.{FlatCircuit}
 use Rattle.gg_flat.specs.Renaming.{Renaming, renamed_driver, renamed_register, renamed_memory}
 
 -- ---- lists of numbers
@@ -23,19 +21,6 @@ use Rattle.gg_flat.specs.Renaming.{Renaming, renamed_driver, renamed_register, r
 abbrev pub place_among : List ℕ → ℕ → Option ℕ
 place_among [] s = None
 place_among (x ∷ xs) s = if x == s then Some 0 else option_map suc (place_among xs s)
-
--- the entry of a number in a table of places; none past its end
-abbrev pub place_at : List (Option ℕ) → ℕ → Option ℕ
-place_at places s = slice_index_or places s None
-
--- whether the table has an entry for a number, and that has no place yet
-abbrev pub is_free : List (Option ℕ) → ℕ → Bool
-is_free places s = nat_lt s (length places) && is_none (place_at places s)
-
--- a table with the place of each of the first `count` numbers in a list
-pub record HasPlaces (list : List ℕ) (count : ℕ) (places : List (Option ℕ)) : Type 0 where
-  pub many : length places ≡ count
-  pub each : (s : ℕ) → s < count → place_at places s ≡ place_among list s
 
 -- the numbers of a list that aren't gone, in order
 abbrev pub without : List ℕ → List ℕ → List ℕ
@@ -58,10 +43,6 @@ memories_behind one model = range_with_len (length one.memories) (length model.m
 -- the numbers of what stands behind, by lists; a model has no clock but that of every tick
 abbrev pub behind_by : (globals held memories : List ℕ) → Renaming
 behind_by globals held memories = record { signals = value_at globals; registers = value_at held; memories = value_at memories; clocks = λ clock. None }
-
--- the numbers that all of a model gets behind a circuit
-abbrev pub numbers_behind : (one model : FlatCircuit) → Renaming
-numbers_behind one model = behind_by (globals_behind one model) (held_behind one model) (memories_behind one model)
 
 -- ---- drivers
 
@@ -86,10 +67,6 @@ linked_at outs left ty driver (Some i) = Computed (copy_line ty (value_at outs i
 -- a signal of the circuit with this driver
 abbrev pub linked_signal : (outs : List ℕ) (driven left : Option ℕ) → Signal → Signal
 linked_signal outs driven left signal = record { ty = signal.ty; driver = linked_at outs left signal.ty signal.driver driven }
-
--- the driver of signal s of the circuit, by its place among the signals that the bridge drives
-abbrev pub linked_driver : (outs left : List ℕ) → ℕ → Ty → Driver → Option ℕ → Driver
-linked_driver outs left s ty driver place = linked_at outs (place_among left s) ty driver place
 
 -- signal s of the circuit, by the signals that the bridge drives and the inputs that are left
 abbrev pub linked : (outs drives left : List ℕ) → ℕ → Signal → Signal
@@ -126,25 +103,3 @@ abbrev pub joined : (one : FlatCircuit) (front : List ℕ) (model : FlatCircuit)
 joined one front model sees drives =
     with_model one front model (globals_behind one model) (held_behind one model) (memories_behind one model) sees drives
     (map (value_at (globals_behind one model)) model.outs) (without drives one.ins) (without sees one.outs)
-
--- the model with the paths that its signals have in the circuit
-abbrev pub placed : List ℕ → FlatCircuit → FlatCircuit
-placed front model = record model { paths = map (λ path. front ++ path) model.paths }
-
--- The bridge's ports are the circuit's and fit the model: as many, with the model's types, and what it drives are inputs, each once.
--- No path of the circuit is one of the model's.
-pub record CanJoin (one : FlatCircuit) (front : List ℕ) (model : FlatCircuit) (sees drives : List ℕ) : Type 0 where
-  pub seen_count : length sees ≡ length model.ins
-  pub seen : (i : ℕ) → i < length sees → value_at sees i < length one.signals
-  pub seen_type : (i : ℕ) → i < length sees → shape_at (signal_shapes one) (value_at sees i) ≡ shape_at (signal_shapes model) (value_at model.ins i)
-  pub driven_count : length drives ≡ length model.outs
-  pub driven : (i : ℕ) → i < length drives → Contains one.ins (value_at drives i)
-  pub driven_type : (i : ℕ) → i < length drives → shape_at (signal_shapes one) (value_at drives i) ≡ shape_at (signal_shapes model) (value_at model.outs i)
-  pub once : AllPairs (λ a b. a ≢ b) drives
-  -- no path of the circuit is one that a signal of the model gets
-  pub fresh : (s i : ℕ) → s < length one.signals → i < length model.signals → path_at one.paths s ≢ front ++ path_at model.paths i
-
--- a circuit has an order of evaluation
-pub record HasOrder (circuit : FlatCircuit) : Type 0 where
-  pub order : List ℕ
-  pub is : IsOrder circuit order

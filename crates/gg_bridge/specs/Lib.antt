@@ -1,9 +1,7 @@
-pub mod Echo
 pub mod Hosted
 pub mod Ports
 pub mod Model
 pub mod Joined
 pub mod Turned
 pub mod All
-pub mod JoinedRuns
-pub mod JoinedParts
+pub mod inside

@@ -1,10 +1,8 @@
 -- The ports at which a bridge stands, by their names.
 -- Source: FIRRTL Specification, "Modules" (a port is known by its name); the paths of pipes and of models are this program's own.
-use Rattle.std.specs.Prelude.{◌≡◌, ℕ, List, [], ◌∷◌, ◌++◌, Bool, true, false, nat_lt, ◌||◌, if◌then◌else◌, Option, Some, None, map, slice_get, codes, All, bytes_eq}
-use Rattle.std.specs.List.{list_any}
+use Rattle.std.specs.Prelude.{ℕ, List, [], ◌∷◌, ◌++◌, Bool, false, ◌||◌, if◌then◌else◌, Option, Some, None, map, slice_get, codes, bytes_eq}
 use Rattle.gg_flat.specs.Circuit.{FlatCircuit}
-use Rattle.gg_flat.specs.Line.{value_at}
-use Rattle.gg_bridge.specs.Joined.{CanJoin, joined, place_at}
+use Rattle.gg_bridge.specs.Joined.{joined}
 
 -- what the paths of a bridge's model begin with
 abbrev pub front_of : List ℕ → List ℕ
@@ -24,29 +22,7 @@ abbrev pub first_called : FlatCircuit → List ℕ → List ℕ → ℕ
 first_called circuit name [] = 0
 first_called circuit name (s ∷ signals) = if is_called circuit name s then s else first_called circuit name signals
 
--- ---- by a table of places
-
--- the place that a table has for a signal, if there is a signal
-abbrev pub place_by : List (Option ℕ) → Option ℕ → Option ℕ
-place_by places None = None
-place_by places (Some s) = place_at places s
-
--- the earlier of two places
-abbrev pub earlier : Option ℕ → Option ℕ → Option ℕ
-earlier None other = other
-earlier (Some i) None = Some i
-earlier (Some i) (Some j) = if nat_lt j i then Some j else Some i
-
--- the number at a place; 0 if there is none
-abbrev pub picked : List ℕ → Option ℕ → ℕ
-picked list None = 0
-picked list (Some place) = value_at list place
-
 -- ---- where a bridge can stand
-
--- one of these signals is called so
-abbrev pub IsAmong : FlatCircuit → List ℕ → List ℕ → Type 0
-IsAmong circuit signals name = list_any (is_called circuit name) signals ≡ true
 
 -- the signals that a bridge sees at the outputs with these names, and those that it drives at the inputs with these names
 abbrev pub seen_at : FlatCircuit → List (List ℕ) → List ℕ
@@ -55,13 +31,6 @@ seen_at circuit sees = map (λ name. first_called circuit name circuit.outs) see
 -- those that it drives at the inputs with these names
 abbrev pub driven_at : FlatCircuit → List (List ℕ) → List ℕ
 driven_at circuit drives = map (λ name. first_called circuit name circuit.ins) drives
-
--- A bridge of this name can stand at the ports with these names: they are outputs and inputs of the circuit, and the circuit can be
--- joined with the model there.
-pub record CanStand (circuit : FlatCircuit) (name : List ℕ) (model : FlatCircuit) (sees drives : List (List ℕ)) : Type 0 where
-  pub outputs : All (IsAmong circuit circuit.outs) sees
-  pub inputs : All (IsAmong circuit circuit.ins) drives
-  pub can : CanJoin circuit (front_of name) model (seen_at circuit sees) (driven_at circuit drives)
 
 -- the circuit with the bridge's model in it
 abbrev pub joined_at : FlatCircuit → List ℕ → FlatCircuit → (sees drives : List (List ℕ)) → FlatCircuit

@@ -1,7 +1,6 @@
 -- A flat circuit with its in-signals and out-signals in another order.
 -- Source: FIRRTL Specification, "Circuit Definitions" (ports are known by their names, whatever their order).
-use Rattle.std.specs.Prelude.{◌≡◌, ◌≢◌, ℕ, ◌<◌, List, length, map, unwrap_or, Contains, All, AllPairs}
-use Rattle.std.specs.List.{range_with_len}
+use Rattle.std.specs.Prelude.{ℕ, List, map, unwrap_or}
 use Rattle.gg_flat.specs.declared.piece.Signal.{Signal}
 use Rattle.gg_flat.specs.declared.piece.Driver.{Driver}
 use Rattle.gg_flat.specs.declared.piece.Driver.TheVariants.{Input, Held, MemoryWord, ReadRegister, Computed}
@@ -37,14 +36,3 @@ turned circuit ins outs =
       outs = map (value_at circuit.outs) outs;
       clocks = circuit.clocks;
     }
-
--- the inputs of the circuit, from those of the turned one
-abbrev pub turned_back : List ℕ → List ℕ → List ℕ
-turned_back ins inputs = map (λ place. value_at inputs (place_in ins place)) (range_with_len 0 (length ins))
-
--- these are all places of a list of so many, each once
-pub record AreAllPlaces (count : ℕ) (places : List ℕ) : Type 0 where
-  pub total : length places ≡ count
-  pub known : All (λ place. place < count) places
-  pub every : (place : ℕ) → place < count → Contains places place
-  pub once : AllPairs (λ a b. a ≢ b) places

@@ -1,7 +1,8 @@
 //! `Bridge`: a model in the host's own code.
 ghost use Rattle.std.specs.Prelude.{◌≡◌, length};
 ghost use Rattle.gg_flat.specs.Settled.{IsInputs};
-ghost use Rattle.gg_bridge.specs.Model.{IsModel, IsSaid, IsAnswer};
+ghost use Rattle.gg_bridge.specs.Model.{IsModel};
+ghost use Rattle.gg_bridge.specs.inside.Model.{IsSaid, IsAnswer};
 
 use gg_flat::Piece;
 

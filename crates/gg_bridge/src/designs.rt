@@ -3,7 +3,8 @@ ghost use Rattle.std.specs.Prelude.{◌≡◌, IfOk};
 ghost use Rattle.gg_bridge.specs.Model.{IsModel};
 ghost use Rattle.gg_flat.specs.WellFormed.{IsWellFormed};
 ghost use Rattle.gg_flat.specs.Order.{IsOrder};
-ghost use Rattle.gg_bridge.specs.Joined.{CanJoin, joined, HasOrder};
+ghost use Rattle.gg_bridge.specs.inside.Joined.{CanJoin, HasOrder};
+ghost use Rattle.gg_bridge.specs.Joined.{joined};
 
 use crate::joining::join_circuit;
 use crate::laws::{joined_formed, joined_ordered};

@@ -2,7 +2,7 @@
 ghost use Rattle.std.specs.Prelude.{◌≡◌, ◌≤◌, ◌<◌, ◌-◌, ◌^◌, [], ◌∷◌, ◌++◌, length, IfOk, OnOk};
 ghost use Rattle.gg_bits.specs.declared.types.Kind.TheVariants.{UInt};
 ghost use Rattle.gg_bridge.specs.Joined.{copy_line};
-ghost use Rattle.gg_bridge.specs.Echo.{echo_piece, echo_state};
+ghost use Rattle.gg_bridge.specs.inside.Echo.{echo_piece, echo_state};
 
 use crate::bridge::Bridge;
 use gg_bits::{Kind, Name, Ty};
@@ -20,7 +20,7 @@ pub struct Echo {
 }
 
 impl Model for Echo {
-    ghost use Rattle.gg_bridge.specs.Echo.{Echoing, IsEcho};
+    ghost use Rattle.gg_bridge.specs.inside.Echo.{Echoing, IsEcho};
 
     ghost Value = { Echoing };
 
@@ -95,7 +95,7 @@ impl Echo {
 }
 
 impl Bridge for Echo {
-    ghost use Rattle.gg_bridge.specs.Echo.{echo_piece, echo_state};
+    ghost use Rattle.gg_bridge.specs.inside.Echo.{echo_piece, echo_state};
 
     ghost piece = { λ echo. echo_piece echo.ty };
 

@@ -1,11 +1,15 @@
 //! `Hosted`: a bridge as a machine.
 ghost use Rattle.std.specs.Prelude.{◌≡◌, ℕ, ◌<◌, ◌≤◌, [], ◌∷◌, None, All, IfOk, length, is_some, slice_set};
 ghost use Rattle.gg_flat.specs.Line.{value_at};
-ghost use Rattle.gg_node.specs.Machine.{IsTray, Machine, machine_at, latch_at, flag_at, latched_value, missing, due};
+ghost use Rattle.gg_node.specs.inside.Machine.{IsTray, due};
+ghost use Rattle.gg_node.specs.Machine.{Machine, machine_at, latch_at, flag_at, latched_value, missing};
 ghost use Rattle.gg_node.specs.Token.{IsToken, IsNextState};
-ghost use Rattle.gg_node.specs.Step.{MayLatch, MayFire, MayServe, MayFinish, with_latch, with_flag, with_served, finished};
-ghost use Rattle.gg_bridge.specs.Turned.{turned, AreAllPlaces};
-ghost use Rattle.gg_bridge.specs.Hosted.{started_bridge, ArePorts};
+ghost use Rattle.gg_node.specs.inside.Step.{MayLatch, MayFire, MayServe, MayFinish};
+ghost use Rattle.gg_node.specs.Step.{with_latch, with_flag, with_served, finished};
+ghost use Rattle.gg_bridge.specs.Turned.{turned};
+ghost use Rattle.gg_bridge.specs.inside.Turned.{AreAllPlaces};
+ghost use Rattle.gg_bridge.specs.Hosted.{started_bridge};
+ghost use Rattle.gg_bridge.specs.inside.Hosted.{ArePorts};
 
 use crate::bridge::Bridge;
 use gg_bits::Ids;
@@ -33,7 +37,8 @@ pub struct Hosted<B: Bridge + Drop> {
 impl<B: Bridge + Drop> Model for Hosted<B> {
     ghost use Rattle.gg_node.specs.Machine.{Machine};
     ghost use Rattle.gg_bridge.specs.Turned.{turned};
-    ghost use Rattle.gg_bridge.specs.Hosted.{bridge_machine, IsHosted};
+    ghost use Rattle.gg_bridge.specs.Hosted.{bridge_machine};
+    ghost use Rattle.gg_bridge.specs.inside.Hosted.{IsHosted};
 
     ghost Value = { Machine };
 

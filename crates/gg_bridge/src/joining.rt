@@ -9,7 +9,8 @@ ghost use Rattle.gg_flat_tree.specs.Tree.{path_at};
 ghost use Rattle.gg_flat.specs.Renaming.{renamed_register, renamed_memory};
 ghost use Rattle.gg_flat.specs.WellFormed.{IsWellFormed};
 ghost use Rattle.gg_bridge.specs.Model.{IsModel};
-ghost use Rattle.gg_bridge.specs.Joined.{CanJoin, behind_by, joined, copy_line, left_at, linked, linked_signal, place_at, with_model, driver_behind, signal_behind, globals_behind, held_behind, memories_behind, without};
+ghost use Rattle.gg_bridge.specs.inside.Joined.{CanJoin, place_at};
+ghost use Rattle.gg_bridge.specs.Joined.{behind_by, joined, copy_line, left_at, linked, linked_signal, with_model, driver_behind, signal_behind, globals_behind, held_behind, memories_behind, without};
 ghost use Rattle.gg_bits.specs.Lists.{by_number};
 
 use crate::numbers::{left_of, numbers_at, numbers_from, place_at, places_of};

@@ -4,10 +4,12 @@ ghost use Rattle.gg_flat.specs.Circuit.{FlatCircuit};
 ghost use Rattle.gg_flat.specs.WellFormed.{IsWellFormed};
 ghost use Rattle.gg_flat.specs.Order.{IsOrder};
 ghost use Rattle.gg_flat.specs.State.{State, IsState, opening};
-ghost use Rattle.gg_bridge.specs.All.{Attached, CanAttachAll, CanAttachEach, joined_all, joined_state, joined_states};
-ghost use Rattle.gg_bridge.specs.Joined.{joined, HasOrder};
-ghost use Rattle.gg_bridge.specs.JoinedParts.{JoinedIsFormed, JoinedIsOrdered, StatesMakeAState, TheCircuitIsPart, TheModelIsPart};
-ghost use Rattle.gg_bridge.specs.JoinedRuns.{DrivesWhatTheModelSays, RunsOfAll, RunsOfTheCircuit, RunsOfTheModel};
+ghost use Rattle.gg_bridge.specs.inside.All.{Attached, CanAttachAll, CanAttachEach, joined_all, joined_states};
+ghost use Rattle.gg_bridge.specs.All.{joined_state};
+ghost use Rattle.gg_bridge.specs.Joined.{joined};
+ghost use Rattle.gg_bridge.specs.inside.Joined.{HasOrder};
+ghost use Rattle.gg_bridge.specs.inside.JoinedParts.{JoinedIsFormed, JoinedIsOrdered, StatesMakeAState, TheCircuitIsPart, TheModelIsPart};
+ghost use Rattle.gg_bridge.specs.inside.JoinedRuns.{DrivesWhatTheModelSays, RunsOfAll, RunsOfTheCircuit, RunsOfTheModel};
 
 /// The circuit and the model, with its new paths, are parts of the circuit with the model.
 pub fn joined_parts()

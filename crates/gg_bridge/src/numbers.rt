@@ -2,7 +2,8 @@
 ghost use Rattle.std.specs.Prelude.{◌≡◌, ℕ, ◌≤◌, ◌<◌, ◌+◌, ◌^◌, [], map, length, IfOk};
 ghost use Rattle.std.specs.List.{range_with_len};
 ghost use Rattle.gg_flat.specs.Line.{value_at};
-ghost use Rattle.gg_bridge.specs.Joined.{HasPlaces, is_free, place_at, without};
+ghost use Rattle.gg_bridge.specs.inside.Joined.{HasPlaces, is_free, place_at};
+ghost use Rattle.gg_bridge.specs.Joined.{without};
 
 use gg_flat::number_at;
 use std::alloc::{AllocError, Global};

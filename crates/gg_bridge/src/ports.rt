@@ -1,8 +1,9 @@
 //! `join`: a design with a bridge's model at its ports.
 ghost use Rattle.std.specs.Prelude.{◌≡◌, ◌≢◌, ◌++◌, AllPairs, codes, length, map, string_bytes, IfOk};
-ghost use Rattle.gg_bridge.specs.Joined.{HasPlaces};
+ghost use Rattle.gg_bridge.specs.inside.Joined.{HasPlaces};
 ghost use Rattle.gg_bridge.specs.Model.{IsModel};
-ghost use Rattle.gg_bridge.specs.Ports.{CanStand, earlier, first_called, front_of, joined_at, picked, place_by};
+ghost use Rattle.gg_bridge.specs.inside.Ports.{CanStand, earlier, picked, place_by};
+ghost use Rattle.gg_bridge.specs.Ports.{first_called, front_of, joined_at};
 
 use crate::{place_at, places_of};
 use gg_bits::{Name, Names};

@@ -20,7 +20,7 @@ use Rattle.gg_cut_reference.proofs.PlanLemmas.{plan-columns}
 use Rattle.gg_cut_reference.specs.whole.Whole.{CanBridge, HasFreeFronts, plan_circuit, with_bridges}
 use Rattle.gg_cut_reference.proofs.WholeLemmas.PlanLemmas.{faultless as no-fault}
 use Rattle.gg_build.specs.plan.Built.{nameless}
-use Rattle.gg_build.specs.Build.{HasBridges, NeedsNone}
+use Rattle.gg_build.specs.inside.Build.{HasBridges, NeedsNone}
 
 pub needs-none : (design : Ordered) (request : Request) (models : Models) (default : ℕ) (plan : Plan) → IsPlan design request models default plan → request.bridges ≡ [] → NeedsNone plan
 needs-none design request models default plan planned alone = λ m body lt is.

@@ -21,7 +21,8 @@ use Rattle.gg_order.proofs.FoundLemmas.{found-is}
 use Rattle.gg_cut_reference.proofs.WholeLemmas.PlanLemmas.{circuit-formed, circuit-ordered}
 use Rattle.gg_cut_reference.proofs.WholeLemmas.StateLemmas.{states-with}
 use Rattle.gg_build.specs.plan.Built.{IsGiven}
-use Rattle.gg_build.specs.Build.{IsToRun, circuit_order, circuit_rows, flow_along}
+use Rattle.gg_build.specs.inside.Build.{IsToRun}
+use Rattle.gg_build.specs.Build.{circuit_order, circuit_rows, flow_along}
 
 module _ (design : Ordered) (request : Request) (models : Models) (default : ℕ) (plan : Plan) (columns : List (List ℕ)) (n : ℕ) (can : CanBridge design request models) (held : AreHeldOnce design.circuit) (planned : IsPlan design request models default plan)
     (some : 0 < default) (room : default ≤ capacity_limit) (most : n ≤ cycle_limit) (fed : IsColumns (plan_circuit design request models) n columns) where

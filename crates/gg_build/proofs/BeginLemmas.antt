@@ -21,8 +21,9 @@ use Rattle.gg_net.specs.Network.{Network}
 use Rattle.gg_build.specs.plan.Built.{AreBuilt, IsBuilt, body_start, machine_in, nameless, no_token, opening_of}
 use Rattle.gg_build.proofs.PlanLemmas.ZeroLemmas.{begins-there}
 use Rattle.gg_build.specs.declared.begin.Begin.{Begin}
-use Rattle.gg_build.specs.Begin.{AreTokens, part_begin, starts_of, state_from}
-use Rattle.gg_build.specs.Build.{Begins, IsOpeningFrom, IsOpeningOf, IsStarted, IsToBegin, IsToRun, IsToStart}
+use Rattle.gg_build.specs.inside.Begin.{AreTokens, part_begin, starts_of, state_from}
+use Rattle.gg_build.specs.inside.Build.{Begins, IsOpeningFrom, IsStarted, IsToBegin, IsToRun, IsToStart}
+use Rattle.gg_build.specs.Build.{IsOpeningOf}
 
 -- machines that are built from these starts are built from equal ones
 built-by : (plan : Plan) (starts others : Body → Start) (columns : List (List ℕ)) (machines : List Machine) → ((m : ℕ) → m < length plan.machines → starts (machine_in plan m).body ≡ others (machine_in plan m).body) → AreBuilt plan starts columns machines → AreBuilt plan others columns machines

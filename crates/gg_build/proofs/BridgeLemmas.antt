@@ -13,9 +13,9 @@ use Rattle.gg_cut_plan.specs.declared.plan.Body.TheVariants.{Cut, Memory, Source
 use Rattle.gg_cut_plan.specs.declared.plan.Machine as planned
 use Rattle.gg_cut_plan.specs.declared.plan.Plan.{Plan}
 use Rattle.gg_build.specs.plan.Built.{machine_in}
-use Rattle.gg_build.specs.Bridges.{Table, AreApart, HasOwn, KeepsOthers, TellsBridges, bridge_named}
-use Rattle.gg_build.specs.Build.{HasBridges}
-use Rattle.gg_build.specs.Hosts.{AreAllApart, HaveBridges, first_body}
+use Rattle.gg_build.specs.inside.Bridges.{Table, AreApart, HasOwn, KeepsOthers, TellsBridges, bridge_named}
+use Rattle.gg_build.specs.inside.Build.{HasBridges}
+use Rattle.gg_build.specs.inside.Hosts.{AreAllApart, HaveBridges, first_body}
 
 -- ---- a table of bridges
 

@@ -5,7 +5,7 @@ use Rattle.std.proofs.lemmas.Bool.{cases_eq}
 use Rattle.std.proofs.lemmas.List.{get_or_push, get_or_append_left, get_or-set_same, get_or-set_other, get_or-map, length-append, length-set, map-set}
 use Rattle.std.proofs.lemmas.Option.{none-some, same_Some}
 use Rattle.gg_flat.specs.Line.{value_at}
-use Rattle.gg_build.specs.Groups.{group_at, IsMember, AreGrouped, AllHaveSome, AreGroups, host_for, AreNumbered, AreSoFar, IsHostFor, FirstsAscend, HasEarlier}
+use Rattle.gg_build.specs.inside.Groups.{group_at, IsMember, AreGrouped, AllHaveSome, AreGroups, host_for, AreNumbered, AreSoFar, IsHostFor, FirstsAscend, HasEarlier}
 
 -- ---- a host more
 

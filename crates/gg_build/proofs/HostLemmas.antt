@@ -15,18 +15,19 @@ use Rattle.gg_cut_plan.specs.declared.plan.Machine as planned
 use Rattle.gg_part.specs.declared.part.Part.{Part}
 use Rattle.gg_order.specs.needs.Needs.{AreNeedsOfOuts}
 use Rattle.gg_program.specs.Programmed.{Programmed}
-use Rattle.gg_node.specs.Machine.{Machine, first_kept, machine_at, no_machine, IsTray, kept_value}
+use Rattle.gg_node.specs.Machine.{Machine, first_kept, machine_at, no_machine, kept_value}
+use Rattle.gg_node.specs.inside.Machine.{IsTray}
 use Rattle.gg_fame5.specs.Machine.{started_unit}
-use Rattle.gg_fame5.specs.Lane.{Laned, lane_machine}
-use Rattle.gg_fame5.specs.Shared.{Sharing}
-use Rattle.gg_fame5.specs.Shared as shared
-use Rattle.gg_net.specs.Net.{entry_of}
+use Rattle.gg_fame5.specs.inside.Lane.{Laned, lane_machine}
+use Rattle.gg_fame5.specs.inside.Shared.{Sharing}
+use Rattle.gg_fame5.specs.inside.Shared as shared
+use Rattle.gg_net.specs.inside.Net.{entry_of}
 use Rattle.gg_net.specs.declared.shape.ServedPort.{ServedPort}
 use Rattle.gg_build.specs.plan.Built.{IsUnitOf}
 use Rattle.gg_build.specs.declared.node.Node.{Node}
-use Rattle.gg_build.specs.Groups.{group_at}
-use Rattle.gg_build.specs.Hosts.{IsUnitPart, IsGroup, IsAlone, IsBuiltWith, IsHost, IsHostOf, AreHosts, AreUnits, body_at, outs_at}
-use Rattle.gg_build.specs.Node.{machines_of}
+use Rattle.gg_build.specs.inside.Groups.{group_at}
+use Rattle.gg_build.specs.inside.Hosts.{IsUnitPart, IsGroup, IsAlone, IsBuiltWith, IsHost, IsHostOf, AreHosts, AreUnits, body_at, outs_at}
+use Rattle.gg_build.specs.inside.Node.{machines_of}
 
 -- ---- units
 

@@ -11,9 +11,10 @@ use Rattle.gg_node.specs.Machine.{Machine, machine_at, no_machine}
 use Rattle.gg_net.specs.declared.shape.Wire.{Wire}
 use Rattle.gg_net.specs.declared.shape.Station.{Station}
 use Rattle.gg_net.specs.Network.{Network, Kind, kind_of, kind_at, IsAtIn, IsAtOut}
-use Rattle.gg_net.specs.Stations.{stationed, machines_by}
+use Rattle.gg_net.specs.inside.Stations.{stationed, machines_by}
 use Rattle.gg_net.specs.Kept.{IsSound}
-use Rattle.gg_net.specs.Net.{entry_of, IsListed, opening_net, Opens}
+use Rattle.gg_net.specs.inside.Net.{entry_of, IsListed, Opens}
+use Rattle.gg_net.specs.Net.{opening_net}
 use Rattle.gg_cut_reference.proofs.WholeLemmas.PortLemmas.{plan-ins}
 use Rattle.gg_cut_reference.proofs.WholeLemmas.RunLemmas.{whole-runs}
 use Rattle.gg_build.specs.plan.Built.{machine_in, wires_of_plan, AreBuilt, IsBuilt, body_start, flow_of, plan_frame}
@@ -23,11 +24,11 @@ use Rattle.gg_build.proofs.PlanLemmas.SolvedLemmas.{plan-solved}
 use Rattle.gg_build.proofs.PlanLemmas.OpeningLemmas.{built-opening}
 use Rattle.gg_build.proofs.PlanLemmas.WithinLemmas.{plan-within}
 use Rattle.gg_build.specs.declared.node.Node.{Node}
-use Rattle.gg_build.specs.Node.{machines_of}
+use Rattle.gg_build.specs.inside.Node.{machines_of}
 use Rattle.gg_build.specs.declared.begin.Begin.{Begin}
-use Rattle.gg_build.specs.Begin.{AreTokens, starts_of}
-use Rattle.gg_build.specs.Build.{IsStarted, IsToStart}
-use Rattle.gg_build.specs.Hosts.{IsPlacement, IsBuiltWith}
+use Rattle.gg_build.specs.inside.Begin.{AreTokens, starts_of}
+use Rattle.gg_build.specs.inside.Build.{IsStarted, IsToStart}
+use Rattle.gg_build.specs.inside.Hosts.{IsPlacement, IsBuiltWith}
 use Rattle.gg_build.proofs.PlacementLemmas.{no_station}
 
 module _ {B : Type 0} (plan : Plan) (begin : Begin) (columns : List (List ℕ)) (n : ℕ) (hosts : List (Node B)) (stations : List Station) (are : IsPlacement plan (starts_of plan.ratios begin) columns hosts stations) where

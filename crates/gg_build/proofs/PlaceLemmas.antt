@@ -5,7 +5,7 @@ use Rattle.std.proofs.lemmas.Bool.{cases_lt, cases_eq}
 use Rattle.std.proofs.lemmas.List.{get_or-map, get_or-set_same, get_or-set_other, length-set, get_or_default}
 use Rattle.gg_flat.specs.Line.{value_at}
 use Rattle.gg_cut_split.proofs.ClosedLemmas.MakerLemmas.{find-number}
-use Rattle.gg_build.specs.Wires.{IsPlaceAt, IsNoted, channels_at, IsPlace, AreListed, ArePlaces}
+use Rattle.gg_build.specs.inside.Wires.{IsPlaceAt, IsNoted, channels_at, IsPlace, AreListed, ArePlaces}
 
 -- ---- one list
 

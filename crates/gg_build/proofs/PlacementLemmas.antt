@@ -10,15 +10,15 @@ use Rattle.gg_cut_plan.specs.declared.plan.Machine as planned
 use Rattle.gg_cut_plan.specs.declared.plan.Plan.{Plan}
 use Rattle.gg_node.specs.Machine.{Machine, machine_at, no_machine}
 use Rattle.gg_net.specs.declared.shape.Station.{Station}
-use Rattle.gg_net.specs.Net.{entry_of}
-use Rattle.gg_net.specs.Stations.{hosted, stationed, IsStationed, HasStation, AreStationed}
+use Rattle.gg_net.specs.inside.Net.{entry_of}
+use Rattle.gg_net.specs.inside.Stations.{hosted, stationed, IsStationed, HasStation, AreStationed}
 use Rattle.gg_build.specs.plan.Built.{machine_in, nameless}
 use Rattle.gg_build.specs.declared.node.Node.{Node}
 use Rattle.gg_build.specs.declared.node.Node.TheVariants as node
-use Rattle.gg_build.specs.Groups.{group_at, IsMember, AreGroups, HasEarlier}
-use Rattle.gg_build.specs.Bridges.{Table, HasOwn}
-use Rattle.gg_build.specs.Hosts.{AreAllApart, HaveBridges, HaveNames, first_body, CanBuildAll, IsBuiltWith, IsGroup, IsHostOf, AreHosts, IsStation, AreStations, IsPlaced, IsPlacement, body_at, outs_at}
-use Rattle.gg_build.specs.Node.{machines_of}
+use Rattle.gg_build.specs.inside.Groups.{group_at, IsMember, AreGroups, HasEarlier}
+use Rattle.gg_build.specs.inside.Bridges.{Table, HasOwn}
+use Rattle.gg_build.specs.inside.Hosts.{AreAllApart, HaveBridges, HaveNames, first_body, CanBuildAll, IsBuiltWith, IsGroup, IsHostOf, AreHosts, IsStation, AreStations, IsPlaced, IsPlacement, body_at, outs_at}
+use Rattle.gg_build.specs.inside.Node.{machines_of}
 
 -- the plan's numbers of the hosts of these machines
 abbrev pub numbers_of : List planned.Machine → List ℕ

@@ -6,7 +6,7 @@ use Rattle.gg_flat.specs.Served.{Access, ByReader, ByWriter, by_readers, by_writ
 use Rattle.gg_node.specs.Step.{fields_of}
 use Rattle.gg_memunit.specs.MemoryUnit.{port_of}
 use Rattle.gg_net.specs.declared.shape.ServedPort.{ServedPort}
-use Rattle.gg_net.specs.Net.{entry_of}
+use Rattle.gg_net.specs.inside.Net.{entry_of}
 
 -- the accesses of some readers, and of one more
 pub readers-more : (r : ℕ) (readers : List Reader) (k : ℕ) (any : Reader) → k < length readers → by_readers r (take (suc k) readers) ≡ by_readers r (take k readers) ++ ByReader (r + k) (get_or readers k any) ∷ []

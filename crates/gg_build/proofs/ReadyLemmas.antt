@@ -26,10 +26,10 @@ use Rattle.gg_build.proofs.PlanLemmas.FitLemmas.{outs-count}
 use Rattle.gg_build.proofs.PlanLemmas.StandLemmas.{memory-formed, memory-chosen, memory-alone}
 use Rattle.gg_build.proofs.PlanLemmas.SeenLemmas.{seen-typed}
 use Rattle.gg_build.specs.declared.begin.Begin.{Begin}
-use Rattle.gg_build.specs.Begin.{starts_of}
-use Rattle.gg_build.specs.Build.{IsFaultless, IsToStart}
-use Rattle.gg_build.specs.Bridges.{IsOther}
-use Rattle.gg_build.specs.Hosts.{CanBegin, CanBuild, CanBuildAll, HaveNames, outs_at}
+use Rattle.gg_build.specs.inside.Begin.{starts_of}
+use Rattle.gg_build.specs.inside.Build.{IsFaultless, IsToStart}
+use Rattle.gg_build.specs.inside.Bridges.{IsOther}
+use Rattle.gg_build.specs.inside.Hosts.{CanBegin, CanBuild, CanBuildAll, HaveNames, outs_at}
 
 -- ---- hosts
 

@@ -25,15 +25,15 @@ use Rattle.gg_order.specs.needs.Needs.{AreNeeds, AreNeedsOfOuts}
 use Rattle.gg_part.specs.declared.part.Part.{Part}
 use Rattle.gg_program.specs.Programmed.{Programmed}
 use Rattle.gg_node.specs.Machine.{Machine, needs_at, no_machine}
-use Rattle.gg_fame5.specs.Fork.{forked, chosen_outs, chosen_needs}
+use Rattle.gg_fame5.specs.inside.Fork.{forked, chosen_outs, chosen_needs}
 use Rattle.gg_fame5.specs.Machine.{started_unit}
-use Rattle.gg_fame5.specs.Shared.{started_machines}
+use Rattle.gg_fame5.specs.inside.Shared.{started_machines}
 use Rattle.gg_build.specs.plan.Built.{IsUnitOf, nameless}
 use Rattle.gg_build.proofs.PlanLemmas.AlikeLemmas.{needs-alike}
 use Rattle.gg_build.specs.declared.begin.Begin.{Begin}
-use Rattle.gg_build.specs.Begin.{starts_of}
-use Rattle.gg_build.specs.Hosts.{ArePicked, ArePickedFor, ArePlaced, AreUnits, IsUnitBody, RunUnits, CanAllBegin, CanBegin, body_at, outs_at, ratios_for, states_for}
-use Rattle.gg_build.specs.Wires.{IsNoted}
+use Rattle.gg_build.specs.inside.Begin.{starts_of}
+use Rattle.gg_build.specs.inside.Hosts.{ArePicked, ArePickedFor, ArePlaced, AreUnits, IsUnitBody, RunUnits, CanAllBegin, CanBegin, body_at, outs_at, ratios_for, states_for}
+use Rattle.gg_build.specs.inside.Wires.{IsNoted}
 
 -- ---- the places of out-signals
 

@@ -20,9 +20,9 @@ use Rattle.gg_build.specs.plan.Built.{nameless, first_token, wire_of, wires_of_p
 use Rattle.gg_build.proofs.PlanLemmas.LinkLemmas.{AreLinks, length-from, wire-from}
 use Rattle.gg_build.proofs.PlanLemmas.ListedLemmas.{given-at, given-in, taken-at, taken-in, at-in, at-out}
 use Rattle.gg_build.proofs.PlanLemmas.GivenLemmas.{links-of}
-use Rattle.gg_build.specs.Begin.{AreTokens}
-use Rattle.gg_build.specs.Build.{IsFaultless}
-use Rattle.gg_build.specs.Wires.{channels_at, IsPlace, AreListed, ArePlaces, AreWires}
+use Rattle.gg_build.specs.inside.Begin.{AreTokens}
+use Rattle.gg_build.specs.inside.Build.{IsFaultless}
+use Rattle.gg_build.specs.inside.Wires.{channels_at, IsPlace, AreListed, ArePlaces, AreWires}
 
 -- the outs of a plan's machines
 abbrev pub outs_of : List planned.Machine → List (List ℕ)

@@ -7,7 +7,7 @@ use Rattle.gg_cut_plan.specs.declared.plan.Machine as planned
 use Rattle.gg_cut_plan.specs.declared.plan.Plan.{Plan}
 use Rattle.gg_net.specs.declared.shape.Station.{Station}
 use Rattle.gg_build.specs.declared.node.Node.{Node}
-use Rattle.gg_build.specs.Hosts.{IsPlacement}
+use Rattle.gg_build.specs.inside.Hosts.{IsPlacement}
 use Rattle.gg_build.proofs.PlacementLemmas.{no_station}
 
 -- a machine that has this host in the plan

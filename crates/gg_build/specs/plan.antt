@@ -1,4 +1,3 @@
 pub mod Built
 pub mod Each
-pub mod Alone
 pub mod CutLayout

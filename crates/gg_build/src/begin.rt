@@ -3,7 +3,7 @@ ghost use Rattle.std.specs.Prelude.{◌≡◌, map, IfOk};
 ghost use Rattle.gg_flat.specs.Line.{value_at};
 ghost use Rattle.gg_flat.specs.Memory.{bank_at};
 ghost use Rattle.gg_part.specs.PartRun.{part_state};
-ghost use Rattle.gg_build.specs.Begin.{state_from};
+ghost use Rattle.gg_build.specs.inside.Begin.{state_from};
 
 use gg_order::{Bank, State};
 use gg_part::Part;

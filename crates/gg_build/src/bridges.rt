@@ -2,10 +2,11 @@
 ghost use Rattle.std.specs.Prelude.{◌≡◌, ◌≢◌, map, AllPairs, IfOk, OnOk};
 ghost use Rattle.gg_flat.specs.State.{opening};
 ghost use Rattle.gg_bridge.specs.Turned.{turned};
-ghost use Rattle.gg_bridge.specs.Hosted.{started_bridge, ArePorts};
+ghost use Rattle.gg_bridge.specs.Hosted.{started_bridge};
+ghost use Rattle.gg_bridge.specs.inside.Hosted.{ArePorts};
 ghost use Rattle.gg_cut_plan.specs.declared.plan.Body.TheVariants.{Bridge as OfBridge};
-ghost use Rattle.gg_build.specs.Bridges.{IsTold, KeepsOthers, TellsBridges};
-ghost use Rattle.gg_build.specs.Hosts.{IsHost};
+ghost use Rattle.gg_build.specs.inside.Bridges.{IsTold, KeepsOthers, TellsBridges};
+ghost use Rattle.gg_build.specs.inside.Hosts.{IsHost};
 
 use crate::node::Node;
 use gg_bits::{Name, copied};

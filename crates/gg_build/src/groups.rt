@@ -1,6 +1,6 @@
 //! Which machines of a plan share a host.
 ghost use Rattle.std.specs.Prelude.{◌≡◌, ◌^◌, ◌<◌, ◌++◌, ◌∷◌, [], length, map, slice_set, All, IfOk, OnOk};
-ghost use Rattle.gg_build.specs.Groups.{AreGroups, IsHostFor, group_at};
+ghost use Rattle.gg_build.specs.inside.Groups.{AreGroups, IsHostFor, group_at};
 
 use gg_cut_plan::Machine;
 use std::alloc::{AllocError, Global};

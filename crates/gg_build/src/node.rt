@@ -1,9 +1,11 @@
 //! `Node`: the hosts of a plan's machines.
 ghost use Rattle.std.specs.Prelude.{◌≡◌, ℕ, ◌<◌, None, length, is_some, slice_set};
-ghost use Rattle.gg_node.specs.Machine.{IsTray, machine_at, latch_at, flag_at, missing, due, kept_value};
+ghost use Rattle.gg_node.specs.inside.Machine.{IsTray, due};
+ghost use Rattle.gg_node.specs.Machine.{machine_at, latch_at, flag_at, missing, kept_value};
 ghost use Rattle.gg_node.specs.Token.{IsToken, IsNextState};
-ghost use Rattle.gg_node.specs.Step.{MayLatch, MayFire, MayServe, MayFinish, with_latch, with_flag, with_served, finished};
-ghost use Rattle.gg_build.specs.Node.{machine_of, machines_of};
+ghost use Rattle.gg_node.specs.inside.Step.{MayLatch, MayFire, MayServe, MayFinish};
+ghost use Rattle.gg_node.specs.Step.{with_latch, with_flag, with_served, finished};
+ghost use Rattle.gg_build.specs.inside.Node.{machine_of, machines_of};
 
 use gg_bridge::{Bridge, Hosted};
 use gg_fame1::Unit;

@@ -1,6 +1,7 @@
 //! `build`, `build_from`: the network of a plan.
 ghost use Rattle.std.specs.Prelude.{◌≡◌, IfOk};
-ghost use Rattle.gg_build.specs.Build.{HasBridges, IsOpeningAt, IsOpeningOf, IsStarted, IsToBegin, IsToRun, IsToStart};
+ghost use Rattle.gg_build.specs.inside.Build.{HasBridges, IsOpeningAt, IsStarted, IsToBegin, IsToRun, IsToStart};
+ghost use Rattle.gg_build.specs.Build.{IsOpeningOf};
 
 use crate::begin::Begin;
 use crate::node::Node;

@@ -3,12 +3,12 @@ ghost use Rattle.std.specs.Prelude.{◌≡◌, ◌<◌, ◌≤◌, ◌∷◌, []
 ghost use Rattle.gg_bits.specs.Limits.{cycle_limit};
 ghost use Rattle.gg_flat.specs.Line.{value_at};
 ghost use Rattle.gg_node.specs.Machine.{machine_at};
-ghost use Rattle.gg_net.specs.Net.{entry_of};
+ghost use Rattle.gg_net.specs.inside.Net.{entry_of};
 ghost use Rattle.gg_build.specs.declared.node.Node as declared;
-ghost use Rattle.gg_build.specs.Begin.{starts_of};
-ghost use Rattle.gg_build.specs.Build.{HasBridges};
-ghost use Rattle.gg_build.specs.Hosts.{CanBuildAll, HasPorts, HaveNames, IsStation, AreStations, IsPlacement};
-ghost use Rattle.gg_build.specs.Node.{machines_of};
+ghost use Rattle.gg_build.specs.inside.Begin.{starts_of};
+ghost use Rattle.gg_build.specs.inside.Build.{HasBridges};
+ghost use Rattle.gg_build.specs.inside.Hosts.{CanBuildAll, HasPorts, HaveNames, IsStation, AreStations, IsPlacement};
+ghost use Rattle.gg_build.specs.inside.Node.{machines_of};
 
 use crate::begin::Begin;
 use crate::bridges::table_of;

@@ -2,7 +2,7 @@
 ghost use Rattle.std.specs.Prelude.{◌≡◌, ◌+◌, ◌^◌, ◌<◌, ◌++◌, length, map, IfOk, OnOk};
 ghost use Rattle.gg_flat.specs.Served.{by_readers, by_writers, due_of};
 ghost use Rattle.gg_memunit.specs.MemoryUnit.{port_of, ports_by};
-ghost use Rattle.gg_net.specs.Net.{entry_of};
+ghost use Rattle.gg_net.specs.inside.Net.{entry_of};
 
 use gg_bits::Ids;
 use gg_flat::{Latency, Memory, Reader, UnderWrite, Writer};

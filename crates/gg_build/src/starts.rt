@@ -1,8 +1,8 @@
 //! Where the machines of a plan begin.
 ghost use Rattle.std.specs.Prelude.{◌≡◌, ◌<◌, length, All, IfOk};
 ghost use Rattle.gg_part.specs.PartRun.{part_ratios};
-ghost use Rattle.gg_build.specs.Begin.{starts_of};
-ghost use Rattle.gg_build.specs.Hosts.{ratios_for, states_for};
+ghost use Rattle.gg_build.specs.inside.Begin.{starts_of};
+ghost use Rattle.gg_build.specs.inside.Hosts.{ratios_for, states_for};
 
 use crate::begin::{Begin, own_state};
 use gg_clocks::{Ratio, Ratios};

@@ -4,10 +4,10 @@ ghost use Rattle.gg_bits.specs.Limits.{cycle_limit};
 ghost use Rattle.gg_flat.specs.Line.{value_at};
 ghost use Rattle.gg_flat.specs.WellFormed.{IsWellFormed};
 ghost use Rattle.gg_cut_plan.specs.Alike.{IsLike};
-ghost use Rattle.gg_fame5.specs.Shared as shared_units;
-ghost use Rattle.gg_build.specs.Begin.{starts_of};
-ghost use Rattle.gg_build.specs.Hosts.{IsUnitPart, AreUnits, ArePicked, ArePickedFor, ArePlaced, CanAllBegin, RunUnits};
-ghost use Rattle.gg_build.specs.Wires.{IsNoted};
+ghost use Rattle.gg_fame5.specs.inside.Shared as shared_units;
+ghost use Rattle.gg_build.specs.inside.Begin.{starts_of};
+ghost use Rattle.gg_build.specs.inside.Hosts.{IsUnitPart, AreUnits, ArePicked, ArePickedFor, ArePlaced, CanAllBegin, RunUnits};
+ghost use Rattle.gg_build.specs.inside.Wires.{IsNoted};
 
 use crate::begin::Begin;
 use crate::starts::{all_ratios, all_states};

@@ -3,9 +3,9 @@ ghost use Rattle.std.specs.Prelude.{◌≡◌, ◌^◌, ◌<◌, ◌≤◌, ℕ,
 ghost use Rattle.gg_flat.specs.Line.{value_at};
 ghost use Rattle.gg_cut_plan.specs.declared.plan.Channel.{Channel};
 ghost use Rattle.gg_build.specs.plan.Built.{first_token, wires_of_plan};
-ghost use Rattle.gg_build.specs.Begin.{AreTokens};
-ghost use Rattle.gg_build.specs.Build.{IsFaultless};
-ghost use Rattle.gg_build.specs.Wires.{IsNoted, AreListed, ArePlaces, AreWires};
+ghost use Rattle.gg_build.specs.inside.Begin.{AreTokens};
+ghost use Rattle.gg_build.specs.inside.Build.{IsFaultless};
+ghost use Rattle.gg_build.specs.inside.Wires.{IsNoted, AreListed, ArePlaces, AreWires};
 
 use gg_cut_plan::{Channel, Machine, Plan};
 use gg_net::Wire;

@@ -5,7 +5,7 @@ use Rattle.std.proofs.Math.Nat.{mod-lt, suc-mul}
 use Rattle.std.proofs.lemmas.Nat.{div-add-mod', div-mul-add, mod-mul-add}
 use Rattle.std.proofs.lemmas.Bool.{cases_lt, lt-ltb, le-ltb}
 use Rattle.gg_flat.specs.Clock.{Ratio, edge}
-use Rattle.gg_clocks.specs.Edges.{IsRatio, edge_count}
+use Rattle.gg_clocks.specs.inside.Edges.{IsRatio, edge_count}
 
 module _ (n m d : ℕ) (some : 0 < d) where
   -- n + m, by the quotient and the remainder of n

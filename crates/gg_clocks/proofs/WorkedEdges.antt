@@ -1,7 +1,7 @@
 -- Edges worked by hand.
 use Rattle.std.proofs.Common.{◌≡◌, ℕ, List, [], ◌∷◌, map, true, false, refl, sym, true≢false, arith}
 use Rattle.gg_flat.specs.Clock.{Ratio, edge}
-use Rattle.gg_clocks.specs.Edges.{IsRatio, edge_count}
+use Rattle.gg_clocks.specs.inside.Edges.{IsRatio, edge_count}
 
 -- the ticks from 0 to 5
 abbrev six : List ℕ

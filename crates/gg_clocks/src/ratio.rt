@@ -2,7 +2,7 @@
 ghost use Rattle.std.specs.Prelude.{◌≡◌, ◌≤◌, IfSome, IfNone};
 ghost use Rattle.gg_bits.specs.Limits.{cycle_limit};
 ghost use Rattle.gg_flat.specs.Clock.{edge};
-ghost use Rattle.gg_clocks.specs.Edges.{IsRatio, edge_count};
+ghost use Rattle.gg_clocks.specs.inside.Edges.{IsRatio, edge_count};
 
 use std::marker::Model;
 
@@ -16,7 +16,7 @@ pub struct Ratio {
 
 impl Model for Ratio {
     ghost use Rattle.gg_flat.specs.Clock.{Ratio};
-    ghost use Rattle.gg_clocks.specs.Edges.{IsRatio};
+    ghost use Rattle.gg_clocks.specs.inside.Edges.{IsRatio};
 
     ghost Value = { Ratio };
 

@@ -17,7 +17,7 @@ pub struct Ticker {
 
 impl Model for Ticker {
     ghost use Rattle.std.specs.Prelude.{◌≡◌, ◌*◌, ◌%◌};
-    ghost use Rattle.gg_clocks.specs.Edges.{Ticking};
+    ghost use Rattle.gg_clocks.specs.inside.Edges.{Ticking};
 
     ghost Value = { Ticking };
 

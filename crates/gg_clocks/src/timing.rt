@@ -34,7 +34,7 @@ impl Drop for Timing {
 impl Model for Timing {
     ghost use Rattle.std.specs.Prelude.{◌≡◌};
     ghost use Rattle.gg_flat.specs.Clock.{edges_at};
-    ghost use Rattle.gg_clocks.specs.Edges.{Timed};
+    ghost use Rattle.gg_clocks.specs.inside.Edges.{Timed};
 
     ghost Value = { Timed };
 

@@ -15,9 +15,10 @@ use Rattle.gg_cut_plan.specs.Direct.{Hub}
 use Rattle.gg_cut_plan.specs.Alike.{IsAlike, AreAlike}
 use Rattle.gg_cut_plan.specs.Fault.{first_fault}
 use Rattle.gg_cut_plan.specs.Hosts.{leader}
-use Rattle.gg_cut_plan.specs.Machines.{machine_count}
-use Rattle.gg_cut_plan.specs.Plan.{IsCutBody, IsCutMachine}
-use Rattle.gg_cut.specs.Made.{HasAscending, IsTimedUnit, IsMadeBody, AreMachinesTo, AreMachines}
+use Rattle.gg_cut_plan.specs.inside.Machines.{machine_count}
+use Rattle.gg_cut_plan.specs.Plan.{IsCutBody}
+use Rattle.gg_cut_plan.specs.inside.Plan.{IsCutMachine}
+use Rattle.gg_cut.specs.inside.Made.{HasAscending, IsTimedUnit, IsMadeBody, AreMachinesTo, AreMachines}
 use Rattle.gg_cut_machines.proofs.HostLemmas.{leader-below}
 use Rattle.gg_cut_machines.proofs.LeaderLemmas.{leaders-first, one-host}
 

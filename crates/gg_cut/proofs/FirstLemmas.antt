@@ -17,13 +17,14 @@ use Rattle.gg_cut_plan.specs.Direct.{Hub, plan_hub, plan_routes}
 use Rattle.gg_cut_plan.specs.Hosts.{leader}
 use Rattle.gg_cut_plan.specs.Listed.{listed_of}
 use Rattle.gg_cut_plan.specs.Machines.{first_source}
-use Rattle.gg_cut_plan.specs.Plan.{IsBody, IsCutBody, IsCutMachine, IsMachine, machine_names}
+use Rattle.gg_cut_plan.specs.Plan.{IsBody, IsCutBody, IsMachine, machine_names}
+use Rattle.gg_cut_plan.specs.inside.Plan.{IsCutMachine}
 use Rattle.gg_cut_plan.specs.Seated.{Bridges, plan_bridges}
 use Rattle.gg_cut_reference.proofs.FittingLemmas.LowLemmas.{low-from, low-to}
 use Rattle.gg_cut_reference.proofs.FittingLemmas.NameLemmas.{kept-named}
 use Rattle.gg_cut_reference.proofs.FittingLemmas.SeatedLemmas.{seat-low}
-use Rattle.gg_cut.specs.Made.{AreMachines}
-use Rattle.gg_cut_machines.specs.Seats.{AreSeated}
+use Rattle.gg_cut.specs.inside.Made.{AreMachines}
+use Rattle.gg_cut_machines.specs.inside.Seats.{AreSeated}
 
 module _ (design : Ordered) (request : Request) (models : Models) where
   abbrev bridges : Bridges

@@ -14,7 +14,7 @@ use Rattle.gg_cut_plan.specs.declared.plan.Body.TheVariants.{Cut, Memory}
 use Rattle.gg_cut_plan.specs.declared.plan.Machine.{Machine}
 use Rattle.gg_cut_plan.specs.declared.wires.Wire.{Wire}
 use Rattle.gg_cut_plan.specs.Plan.{wire_at, channels_to, channels_from, IsNeed, AreNeedsOf, NeedsIn}
-use Rattle.gg_cut.specs.Made.{IsServed, ArePartNeeds, ArePut, AreGiven}
+use Rattle.gg_cut.specs.inside.Made.{IsServed, ArePartNeeds, ArePut, AreGiven}
 
 -- ---- the channels that a machine gives
 

@@ -27,7 +27,8 @@ use Rattle.gg_cut_plan.specs.Seated.{Bridges, plan_bridges, plan_wires}
 use Rattle.gg_cut_reference.proofs.FittingLemmas.LowLemmas.{givens-alike, low-from, low-to, signals-alike}
 use Rattle.gg_flat_tree.specs.Tree.{InstanceTree, path_at}
 use Rattle.gg_cut.proofs.FaultlessLemmas.{capacity-sound}
-use Rattle.gg_cut.specs.Made.{IsCapacity, IsServed, IsServedBody, IsFit, AreTold, IsWired, AreWired, AreChannels}
+use Rattle.gg_cut.specs.Made.{IsCapacity}
+use Rattle.gg_cut.specs.inside.Made.{IsServed, IsServedBody, IsFit, AreTold, IsWired, AreWired, AreChannels}
 
 -- ---- machines
 

@@ -9,17 +9,17 @@ use Rattle.gg_order.specs.Marks.{is_marked}
 use Rattle.gg_partfile.specs.declared.request.Request.{Request}
 use Rattle.gg_cut_plan.specs.declared.listed.Listed.{Listed}
 use Rattle.gg_cut_plan.specs.Listed.{listed_of}
-use Rattle.gg_cut_plan.specs.Machines.{machine_count}
+use Rattle.gg_cut_plan.specs.inside.Machines.{machine_count}
 use Rattle.gg_cut_plan.specs.Direct.{Hub, hub_of, plan_hub, routes, is_gone, is_piped, is_driven}
 use Rattle.gg_cut_plan.specs.Plan.{channels_to, channels_from}
-use Rattle.gg_cut_split.specs.closed.Apart.{AreApart}
+use Rattle.gg_cut_split.specs.inside.Apart.{AreApart}
 use Rattle.gg_cut_split.specs.declared.share.Share.{Share}
-use Rattle.gg_cut_split.specs.IsShare.{IsShare, AreShares}
-use Rattle.gg_cut_split.specs.Spread.{AreLists}
-use Rattle.gg_cut_routes.specs.Routes.{AreRoutes}
-use Rattle.gg_cut_routes.specs.Share.{IsPlanShare, stays_by}
+use Rattle.gg_cut_split.specs.inside.IsShare.{IsShare, AreShares}
+use Rattle.gg_cut_split.specs.inside.Spread.{AreLists}
+use Rattle.gg_cut_routes.specs.inside.Routes.{AreRoutes}
+use Rattle.gg_cut_routes.specs.inside.Share.{IsPlanShare, stays_by}
 use Rattle.gg_cut_routes.proofs.PlanLemmas.{hub-plan-share, other-plan-share}
-use Rattle.gg_cut.specs.Made.{IsRoutedShare, ArePlanShares}
+use Rattle.gg_cut.specs.inside.Made.{IsRoutedShare, ArePlanShares}
 
 -- the share at a place is that of the machine with this number
 pub share-at : (design : Ordered) (listed : Listed) (hub : Hub) (shares : List Share) (m : ℕ) (share : Share) → ArePlanShares design listed hub shares → m < length shares → share ≡ get_or shares m share

@@ -18,7 +18,8 @@ use Rattle.gg_flat.proofs.WorkedCircuits.{one, eight, node, value}
 use Rattle.gg_flat.proofs.WorkedMemories.{two, high, signal, copy, ports, ports_order}
 use Rattle.gg_flat.proofs.WorkedForms.{only, both}
 use Rattle.gg_order.specs.Design.{Ordered}
-use Rattle.gg_part.specs.Part.{IsPart, IsMemoryFrom, ReadsAmong}
+use Rattle.gg_part.specs.Part.{IsPart, IsMemoryFrom}
+use Rattle.gg_part.specs.inside.Part.{ReadsAmong}
 use Rattle.gg_part.specs.declared.part.Part.{Part}
 use Rattle.gg_bits.specs.declared.types.Ty.{Ty}
 use Rattle.gg_partfile.specs.declared.request.Request.{Request}

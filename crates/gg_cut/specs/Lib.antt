@@ -1,3 +1,3 @@
-pub mod Drafted
 pub mod Made
 pub mod existence
+pub mod inside

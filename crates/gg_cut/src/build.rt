@@ -8,9 +8,9 @@ ghost use Rattle.gg_cut_plan.specs.Held.{AreHeldOnce};
 ghost use Rattle.gg_flat.specs.WellFormed.{IsWellFormed};
 ghost use Rattle.gg_cut_plan.specs.Fault.{IsSmall, Tells, first_fault_with};
 ghost use Rattle.gg_cut_plan.specs.Plan.{IsPlan};
-ghost use Rattle.gg_cut_parts.specs.Draft.{IsDraft};
-ghost use Rattle.gg_cut.specs.Drafted.{AreDraftChannels};
-ghost use Rattle.gg_cut_machines.specs.Seating.{AreDraftSeats, ArePlannedMachines};
+ghost use Rattle.gg_cut_parts.specs.inside.Draft.{IsDraft};
+ghost use Rattle.gg_cut.specs.inside.Drafted.{AreDraftChannels};
+ghost use Rattle.gg_cut_machines.specs.inside.Seating.{AreDraftSeats, ArePlannedMachines};
 ghost use Rattle.gg_cut.specs.Made.{IsCapacity};
 
 use crate::channels::channels_of;

@@ -6,8 +6,8 @@ ghost use Rattle.gg_order.specs.Marks.{is_marked};
 ghost use Rattle.gg_cut_plan.specs.Channels.{capacity_of};
 ghost use Rattle.gg_cut_plan.specs.Direct.{is_piped};
 ghost use Rattle.gg_cut_plan.specs.Plan.{wire_at};
-ghost use Rattle.gg_cut_parts.specs.Draft.{IsDraft};
-ghost use Rattle.gg_cut.specs.Made.{IsWired, AreWired};
+ghost use Rattle.gg_cut_parts.specs.inside.Draft.{IsDraft};
+ghost use Rattle.gg_cut.specs.inside.Made.{IsWired, AreWired};
 
 use crate::capacities::capacity_table;
 use crate::needs::take_list;

@@ -7,7 +7,7 @@ ghost use Rattle.gg_cut_plan.specs.Fault.{IsSmall, Tells, entry_faults, first_fa
 ghost use Rattle.gg_bits.specs.Lists.{first_of};
 ghost use Rattle.gg_cut_plan.specs.Held.{AreHeldOnce};
 ghost use Rattle.gg_cut_plan.specs.Listed.{listed_of};
-ghost use Rattle.gg_cut_parts.specs.Draft.{IsDraft};
+ghost use Rattle.gg_cut_parts.specs.inside.Draft.{IsDraft};
 ghost use Rattle.gg_cut.specs.Made.{IsCapacity};
 
 use gg_cut_parts::Draft;

@@ -2,12 +2,12 @@
 ghost use Rattle.std.specs.Prelude.{◌≡◌, IfOk};
 ghost use Rattle.gg_cut_plan.specs.Alike.{AreAlike};
 ghost use Rattle.gg_cut_plan.specs.Hosts.{leader, host_of};
-ghost use Rattle.gg_cut_plan.specs.Plan.{cut_names};
+ghost use Rattle.gg_cut_plan.specs.inside.Plan.{cut_names};
 ghost use Rattle.gg_flat_tree.specs.Tree.{path_at};
-ghost use Rattle.gg_cut_split.specs.again.Again.{IsUnitAgain};
-ghost use Rattle.gg_cut_parts.specs.Draft.{IsDraft, IsMachineDraft};
-ghost use Rattle.gg_cut.specs.Drafted.{AreDraftMachines, AreEarlier, IsDraftBody, IsDraftMachine, IsNextBody};
-ghost use Rattle.gg_cut.specs.Made.{HasAscending, IsTimedBody, IsTimedUnit};
+ghost use Rattle.gg_cut_split.specs.inside.Again.{IsUnitAgain};
+ghost use Rattle.gg_cut_parts.specs.inside.Draft.{IsDraft, IsMachineDraft};
+ghost use Rattle.gg_cut.specs.inside.Drafted.{AreDraftMachines, AreEarlier, IsDraftBody, IsDraftMachine, IsNextBody};
+ghost use Rattle.gg_cut.specs.inside.Made.{HasAscending, IsTimedBody, IsTimedUnit};
 
 use crate::shares::plan_shares;
 use gg_bits::{Ids, Name, copied};

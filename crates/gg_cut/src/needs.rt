@@ -3,7 +3,7 @@ ghost use Rattle.std.specs.Prelude.{◌≡◌, ◌≢◌, ℕ, ◌<◌, List, []
 ghost use Rattle.gg_flat.specs.Line.{value_at};
 ghost use Rattle.gg_cut_plan.specs.declared.plan.Machine.{Machine};
 ghost use Rattle.gg_cut_plan.specs.Plan.{wire_at, channels_to, channels_from};
-ghost use Rattle.gg_cut.specs.Made.{IsFit, IsServed, ArePartNeeds, ArePut, AreGiven, AreTold};
+ghost use Rattle.gg_cut.specs.inside.Made.{IsFit, IsServed, ArePartNeeds, ArePut, AreGiven, AreTold};
 
 use gg_bits::Ids;
 use gg_cut_plan::{Body, Machine, Wire};

@@ -1,7 +1,7 @@
 //! What the machines of a plan have, by the routed channels.
 ghost use Rattle.std.specs.Prelude.{◌≡◌, ◌==◌, ◌<◌, if◌then◌else◌, length, IfOk};
-ghost use Rattle.gg_cut_parts.specs.Draft.{draft_hub, IsDraft};
-ghost use Rattle.gg_cut.specs.Made.{ArePlanShares, IsRoutedShare};
+ghost use Rattle.gg_cut_parts.specs.inside.Draft.{draft_hub, IsDraft};
+ghost use Rattle.gg_cut.specs.inside.Made.{ArePlanShares, IsRoutedShare};
 
 use gg_bits::copied;
 use gg_cut_parts::Draft;

@@ -7,8 +7,9 @@ use Rattle.gg_flat_tree.specs.Tree.{InstanceTree, path_at}
 use Rattle.gg_order.specs.Design.{Ordered}
 use Rattle.gg_partfile.specs.declared.request.Request.{Request}
 use Rattle.gg_cut_plan.specs.declared.listed.Listed.{Listed}
-use Rattle.gg_cut_plan.specs.Machines.{Counts, memory_after, source_after, tray_after, numbering_of}
-use Rattle.gg_cut_plan.specs.Plan.{cut_names, tray_names}
+use Rattle.gg_cut_plan.specs.inside.Machines.{Counts, numbering_of}
+use Rattle.gg_cut_plan.specs.Machines.{memory_after, source_after, tray_after}
+use Rattle.gg_cut_plan.specs.inside.Plan.{cut_names, tray_names}
 use Rattle.gg_cut_plan.specs.Seated.{output_count}
 use Rattle.gg_cut_plan.proofs.TrayLemmas.{halt-tray, out-tray}
 

@@ -23,8 +23,9 @@ use Rattle.gg_cut_plan.specs.Direct.{Hub, plan_hub, plan_routes}
 use Rattle.gg_cut_plan.specs.Fault.{first_fault}
 use Rattle.gg_cut_plan.specs.Hosts.{machine_of, group_of, leader_in, leader}
 use Rattle.gg_cut_plan.specs.Listed.{listed_of, place_of, unit_or_hub}
-use Rattle.gg_cut_plan.specs.Machines.{numbering_of}
-use Rattle.gg_cut_plan.specs.Plan.{channels_to, channels_from, entry_at, port_place, wire_at, IsBody, IsBridgeBody, IsMachine, cut_names, machine_names}
+use Rattle.gg_cut_plan.specs.inside.Machines.{numbering_of}
+use Rattle.gg_cut_plan.specs.Plan.{channels_to, channels_from, entry_at, port_place, wire_at, IsBody, IsBridgeBody, IsMachine, machine_names}
+use Rattle.gg_cut_plan.specs.inside.Plan.{cut_names}
 use Rattle.gg_cut_plan.specs.Seated.{Bridges, first_bridge, first_kept_tray, machine_end, plan_bridges, plan_wires, undriven, unseen}
 use Rattle.gg_bits.specs.Lists.{count_below, one_if, number_or}
 use Rattle.gg_cut_plan.proofs.PathLemmas.{first_place-Some}
@@ -32,7 +33,7 @@ use Rattle.gg_cut_reference.proofs.FittingLemmas.NameLemmas.{bridge-named, kept-
 use Rattle.gg_cut_reference.proofs.FittingLemmas.OpenLemmas.{in-place}
 use Rattle.gg_cut_reference.proofs.FittingLemmas.SeatedLemmas.{before-strict, seat-source, seat-tray}
 use Rattle.gg_cut_split.proofs.AgainLemmas.GroupLemmas.{find-some, has-unit}
-use Rattle.gg_cut_machines.specs.Seats.{AreSeated, ArePlanMachines, AreSides, AreTakers, IsBridgeAdded, IsModelled, machine_by}
+use Rattle.gg_cut_machines.specs.inside.Seats.{AreSeated, ArePlanMachines, AreSides, AreTakers, IsBridgeAdded, IsModelled, machine_by}
 use Rattle.gg_cut_machines.proofs.HostLemmas.{leader-below}
 use Rattle.gg_cut_machines.proofs.LeaderLemmas.{leaders-first, one-host}
 use Rattle.gg_cut_parts.proofs.MachineLemmas.{each-push}

@@ -15,7 +15,7 @@ use Rattle.gg_cut_plan.specs.Plan.{port_place, wire_at}
 use Rattle.gg_cut_plan.specs.Seated.{lister}
 use Rattle.gg_cut_plan.proofs.FindLemmas.{rest-at}
 use Rattle.gg_cut_plan.proofs.PathLemmas.{first_place-Some}
-use Rattle.gg_cut_machines.specs.Seats.{one_more, ports_of}
+use Rattle.gg_cut_machines.specs.inside.Seats.{one_more, ports_of}
 
 eq-back : (a b : List ℕ) → bytes_eq a b ≡ bytes_eq b a
 eq-back a b = by (bytes_eq a b) refl (bytes_eq b a) refl

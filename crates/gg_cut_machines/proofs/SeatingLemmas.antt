@@ -12,14 +12,14 @@ use Rattle.gg_cut_plan.specs.Listed.{listed_of}
 use Rattle.gg_cut_plan.specs.Plan.{channels_to, channels_from, entry_at}
 use Rattle.gg_cut_plan.specs.Seated.{Bridges, first_bridge, first_kept_tray, machine_end, undriven, unseen}
 use Rattle.gg_bits.specs.Lists.{count_below}
-use Rattle.gg_cut_split.specs.Spread.{AreLists}
+use Rattle.gg_cut_split.specs.inside.Spread.{AreLists}
 use Rattle.gg_cut_parts.specs.declared.draft.Draft.{Draft}
 use Rattle.gg_cut_machines.specs.declared.hosts.Hosts.{Hosts}
 use Rattle.gg_cut_machines.specs.declared.seating.Seating.{Seating}
-use Rattle.gg_cut_parts.specs.Draft.{IsDraft, draft_hub}
-use Rattle.gg_cut_machines.specs.Seating.{draft_bridges, draft_wires, AreSeatedTo, IsSeating}
-use Rattle.gg_cut_machines.specs.Hosts.{AreHosts}
-use Rattle.gg_cut_machines.specs.Seats.{AreSeated, AreSides, IsBridgeAdded, machine_by}
+use Rattle.gg_cut_parts.specs.inside.Draft.{IsDraft, draft_hub}
+use Rattle.gg_cut_machines.specs.inside.Seating.{draft_bridges, draft_wires, AreSeatedTo, IsSeating}
+use Rattle.gg_cut_machines.specs.inside.Hosts.{AreHosts}
+use Rattle.gg_cut_machines.specs.inside.Seats.{AreSeated, AreSides, IsBridgeAdded, machine_by}
 use Rattle.gg_cut_machines.proofs.PlacedLemmas as placed
 
 -- the first machines of a draft with its bridges, by what its request lists

@@ -9,16 +9,16 @@ use Rattle.gg_cut_plan.specs.declared.plan.Machine.{Machine}
 use Rattle.gg_cut_plan.specs.declared.listed.Listed.{Listed}
 use Rattle.gg_cut_plan.specs.declared.wires.Wire.{Wire}
 use Rattle.gg_cut_plan.specs.Listed.{listed_of}
-use Rattle.gg_cut_plan.specs.Machines.{machine_count}
+use Rattle.gg_cut_plan.specs.inside.Machines.{machine_count}
 use Rattle.gg_cut_plan.specs.Channels.{wire}
 use Rattle.gg_cut_plan.specs.Direct.{plan_hub, plan_routes}
 use Rattle.gg_cut_plan.specs.Plan.{wire_at}
 use Rattle.gg_cut_plan.specs.Seated.{Bridges, machine_end, plan_bridges, plan_wires, seat_of, seated_wire}
 use Rattle.gg_cut_reference.proofs.FittingLemmas.SeatedLemmas.{seat-known}
 use Rattle.gg_cut_machines.proofs.SeatLemmas.{plan-are, wires-as}
-use Rattle.gg_cut_routes.specs.Routes.{AreRoutes}
+use Rattle.gg_cut_routes.specs.inside.Routes.{AreRoutes}
 use Rattle.gg_flat.specs.Line.{value_at}
-use Rattle.gg_cut_machines.specs.Seats.{wire_by}
+use Rattle.gg_cut_machines.specs.inside.Seats.{wire_by}
 
 module _ (design : Ordered) (request : Request) (listed : Listed) (same : listed ≡ listed_of design.tree request) (sound : AreRoutes design listed (plan_hub design.circuit design.tree request)) where
   abbrev own_bridges : Bridges

@@ -1,3 +1,1 @@
-pub mod Hosts
-pub mod Seating
-pub mod Seats
+pub mod inside

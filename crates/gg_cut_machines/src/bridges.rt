@@ -6,8 +6,8 @@ ghost use Rattle.gg_flat_tree.specs.Tree.{path_at};
 ghost use Rattle.gg_cut_plan.specs.Bridges.{model_named};
 ghost use Rattle.gg_cut_plan.specs.Plan.{port_place, wire_at};
 ghost use Rattle.gg_cut_plan.specs.Seated.{machine_end};
-ghost use Rattle.gg_cut_machines.specs.Seating.{draft_bridges, IsSeating};
-ghost use Rattle.gg_cut_machines.specs.Seats.{IsModelled};
+ghost use Rattle.gg_cut_machines.specs.inside.Seating.{draft_bridges, IsSeating};
+ghost use Rattle.gg_cut_machines.specs.inside.Seats.{IsModelled};
 
 use crate::ports::put_ports;
 use crate::seating::{Seating, given, taken};

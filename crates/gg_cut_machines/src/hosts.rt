@@ -3,8 +3,8 @@ ghost use Rattle.std.specs.Prelude.{◌≡◌, ℕ, ◌+◌, ◌-◌, ◌<◌, �
 ghost use Rattle.std.specs.List.{list_any, range_with_len};
 ghost use Rattle.gg_flat.specs.Line.{value_at};
 ghost use Rattle.gg_cut_plan.specs.Hosts.{machine_of, least_machine, leader, host_of};
-ghost use Rattle.gg_cut_parts.specs.Draft.{IsDraft};
-ghost use Rattle.gg_cut_machines.specs.Hosts.{AreHosts};
+ghost use Rattle.gg_cut_parts.specs.inside.Draft.{IsDraft};
+ghost use Rattle.gg_cut_machines.specs.inside.Hosts.{AreHosts};
 
 use gg_bits::{Name, Names};
 use gg_cut_parts::{Draft, numbers, picked};

@@ -2,9 +2,9 @@
 ghost use Rattle.std.specs.Prelude.{◌≡◌, ◌<◌, ◌≤◌, ◌-◌, length, codes, ◌++◌, IfOk};
 ghost use Rattle.gg_flat.specs.Line.{value_at};
 ghost use Rattle.gg_flat_tree.specs.Tree.{path_at};
-ghost use Rattle.gg_cut_plan.specs.Machines.{machine_count};
-ghost use Rattle.gg_cut_plan.specs.Plan.{cut_names};
-ghost use Rattle.gg_cut_parts.specs.Draft.{IsDraft};
+ghost use Rattle.gg_cut_plan.specs.inside.Machines.{machine_count};
+ghost use Rattle.gg_cut_plan.specs.inside.Plan.{cut_names};
+ghost use Rattle.gg_cut_parts.specs.inside.Draft.{IsDraft};
 
 use gg_bits::Name;
 use gg_cut_parts::{Draft, signal_name};

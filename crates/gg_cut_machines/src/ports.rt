@@ -4,7 +4,7 @@ ghost use Rattle.gg_flat.specs.Line.{value_at};
 ghost use Rattle.gg_flat_tree.specs.Tree.{path_at};
 ghost use Rattle.gg_cut_plan.specs.Listed.{is_among};
 ghost use Rattle.gg_cut_plan.specs.Seated.{lister};
-ghost use Rattle.gg_cut_machines.specs.Seats.{one_more, ports_of};
+ghost use Rattle.gg_cut_machines.specs.inside.Seats.{one_more, ports_of};
 
 use gg_bits::Name;
 use gg_cut_parts::{filled, set_named};

@@ -4,9 +4,9 @@ ghost use Rattle.gg_flat.specs.Line.{value_at};
 ghost use Rattle.gg_cut_plan.specs.Models.{model_names};
 ghost use Rattle.gg_cut_plan.specs.Machines.{first_source};
 ghost use Rattle.gg_cut_plan.specs.Seated.{first_bridge, first_kept_tray, machine_end};
-ghost use Rattle.gg_cut_machines.specs.Seating.{draft_bridges, ArePlannedMachines, AreDraftSeats, AreSeatedTo, IsSeating};
-ghost use Rattle.gg_cut_parts.specs.Draft.{IsDraft};
-ghost use Rattle.gg_cut_machines.specs.Seats.{IsBridgeAdded, machine_by};
+ghost use Rattle.gg_cut_machines.specs.inside.Seating.{draft_bridges, ArePlannedMachines, AreDraftSeats, AreSeatedTo, IsSeating};
+ghost use Rattle.gg_cut_parts.specs.inside.Draft.{IsDraft};
+ghost use Rattle.gg_cut_machines.specs.inside.Seats.{IsBridgeAdded, machine_by};
 
 use crate::bridges::bridge_body;
 use crate::names::{port_name, tray_name, worded};

@@ -1,7 +1,7 @@
 //! What the machines of a plan with bridges are made from.
 ghost use Rattle.std.specs.Prelude.{◌≡◌, ◌<◌, [], length, slice_index_or, IfOk};
-ghost use Rattle.gg_cut_parts.specs.Draft.{IsDraft};
-ghost use Rattle.gg_cut_machines.specs.Seating.{AreDraftPlaces, AreDraftSeats};
+ghost use Rattle.gg_cut_parts.specs.inside.Draft.{IsDraft};
+ghost use Rattle.gg_cut_machines.specs.inside.Seating.{AreDraftPlaces, AreDraftSeats};
 
 use crate::hosts::{Hosts, hosts_of};
 use crate::seats::Seats;

@@ -4,9 +4,9 @@ ghost use Rattle.std.specs.List.{range_with_len};
 ghost use Rattle.gg_flat.specs.Line.{value_at};
 ghost use Rattle.gg_cut_plan.specs.Seated.{machine_end, seat_of};
 ghost use Rattle.gg_bits.specs.Lists.{count_below};
-ghost use Rattle.gg_cut_parts.specs.Draft.{IsDraft};
-ghost use Rattle.gg_cut_machines.specs.Seating.{draft_bridges, AreDraftSeats, AreDraftTakers, AreStarts};
-ghost use Rattle.gg_cut_machines.specs.Seats.{is_open, seat_by, wire_by};
+ghost use Rattle.gg_cut_parts.specs.inside.Draft.{IsDraft};
+ghost use Rattle.gg_cut_machines.specs.inside.Seating.{draft_bridges, AreDraftSeats, AreDraftTakers, AreStarts};
+ghost use Rattle.gg_cut_machines.specs.inside.Seats.{is_open, seat_by, wire_by};
 
 use crate::hosts::one_if;
 use crate::ports::takers_of;

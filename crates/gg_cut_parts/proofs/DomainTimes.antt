@@ -23,23 +23,24 @@ use Rattle.gg_part.specs.KeepsToTree.{KeepsToTree}
 use Rattle.gg_order.specs.Design.{Ordered}
 use Rattle.gg_order.specs.Marks.{is_marked}
 use Rattle.gg_part.specs.declared.part.Clocking.{Clocking}
-use Rattle.gg_part.specs.Clocking.{AreTimed, LeadsTo, clocks_of_ports}
+use Rattle.gg_part.specs.inside.Clocking.{AreTimed, LeadsTo, clocks_of_ports}
 use Rattle.gg_cut_plan.specs.declared.listed.Listed.{Listed}
 use Rattle.gg_cut_plan.specs.Listed.{memory_owner, owner_of_instance}
 use Rattle.gg_cut_plan.specs.Machines.{first_memory, first_unit, unit_number}
-use Rattle.gg_cut_plan.specs.Plan.{HasMemory, Makes, clock_home, machine_clocks}
+use Rattle.gg_cut_plan.specs.Plan.{HasMemory, clock_home, machine_clocks}
+use Rattle.gg_cut_plan.specs.inside.Plan.{Makes}
 use Rattle.gg_cut_plan.proofs.KnownLemmas.{parents-before}
-use Rattle.gg_cut_split.specs.closed.Apart.{AreApart}
+use Rattle.gg_cut_split.specs.inside.Apart.{AreApart}
 use Rattle.gg_cut_split.proofs.ClosedLemmas.ClosedLemmas.{owner-listed, owner-unlisted}
 use Rattle.gg_cut_split.proofs.ClosedLemmas.ListLemmas.{Somewhere}
 use Rattle.gg_cut_split.proofs.ClosedLemmas.MakerLemmas.{find-unit, given-out, owner-signal}
 use Rattle.gg_cut_split.proofs.ClosedLemmas.TreeLemmas.{above as stands-above, innermost, lies-holder}
 use Rattle.gg_cut_split.proofs.ClosedLemmas.WrittenLemmas.{inner-plain}
-use Rattle.gg_cut_split.specs.again.Again.{AreHomes, IsUnitAgain, again_at, cut_wires}
+use Rattle.gg_cut_split.specs.inside.Again.{AreHomes, IsUnitAgain, again_at, cut_wires}
 use Rattle.gg_cut_split.proofs.AgainLemmas.HomeLemmas.{home-none, home-unit, lies-of}
 use Rattle.gg_cut_split.proofs.AgainLemmas.LiesLemmas.{lies-in, owner-in}
 use Rattle.gg_cut_split.proofs.AgainLemmas.UnitSignalLemmas.{IsAtUnit, at-held, end-at, inner-held}
-use Rattle.gg_cut_parts.specs.Domains.{AreUnitClocks, AreWholeClocks}
+use Rattle.gg_cut_parts.specs.inside.Domains.{AreUnitClocks, AreWholeClocks}
 use Rattle.gg_cut_parts.proofs.TableLemmas.{clocks-length, held-known, led-on, port-leads}
 use Rattle.gg_flat.specs.Renaming.{numbers_by, renamed_driver}
 

@@ -8,15 +8,15 @@ use Rattle.gg_order.specs.Design.{Ordered, IsDesign}
 use Rattle.gg_part.specs.declared.part.Clocking.{Clocking}
 use Rattle.gg_part.specs.declared.part.Part.{Part}
 use Rattle.gg_part.specs.Building.{AreHeld}
-use Rattle.gg_part.specs.Clocking.{IsTimed}
+use Rattle.gg_part.specs.inside.Clocking.{IsTimed}
 use Rattle.gg_part.specs.Part.{IsPart}
 use Rattle.gg_cut_plan.specs.declared.listed.Listed.{Listed}
 use Rattle.gg_cut_plan.specs.Direct.{Hub, routes}
 use Rattle.gg_cut_plan.specs.Plan.{channels_from, givens_of, machine_clocks}
-use Rattle.gg_cut_split.specs.again.Again.{IsUnitAgain, again_at, unit_first}
+use Rattle.gg_cut_split.specs.inside.Again.{IsUnitAgain, again_at, unit_first}
 use Rattle.gg_cut_parts.specs.declared.machine_draft.MachineDraft.{MachineDraft}
-use Rattle.gg_cut_parts.specs.Draft.{IsDraftPart, IsMachineDraft, draft_hub}
-use Rattle.gg_cut_parts.specs.MovedPart.{IsUnitRouted, IsUnitShare, IsMovedPiece, IsFollower, HoldAgain}
+use Rattle.gg_cut_parts.specs.inside.Draft.{IsDraftPart, IsMachineDraft, draft_hub}
+use Rattle.gg_cut_parts.specs.inside.MovedPart.{IsUnitRouted, IsUnitShare, IsMovedPiece, IsFollower, HoldAgain}
 use Rattle.gg_cut_parts.proofs.DraftLemmas.{draft-routed, draft-share}
 use Rattle.gg_cut_parts.proofs.FollowerLemmas as follower
 use Rattle.gg_cut_parts.proofs.FollowerLemmas.{IsReady}

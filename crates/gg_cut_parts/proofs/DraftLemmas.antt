@@ -8,8 +8,8 @@ use Rattle.gg_cut_plan.specs.Machines.{first_source}
 use Rattle.gg_partfile.specs.declared.request.Request.{Request}
 use Rattle.gg_cut_parts.specs.declared.draft.Draft.{Draft}
 use Rattle.gg_cut_parts.specs.declared.machine_draft.MachineDraft.{MachineDraft}
-use Rattle.gg_cut_parts.specs.Draft.{IsDraft, IsMachineDraft, draft_hub}
-use Rattle.gg_cut_parts.specs.MovedPart.{IsUnitRouted, IsUnitShare}
+use Rattle.gg_cut_parts.specs.inside.Draft.{IsDraft, IsMachineDraft, draft_hub}
+use Rattle.gg_cut_parts.specs.inside.MovedPart.{IsUnitRouted, IsUnitShare}
 use Rattle.gg_cut_parts.proofs.RoutedLemmas.{plan-unit-routed, unit-share}
 
 pub units-count : (design : Ordered) (request : Request) (listed : Listed) → listed ≡ listed_of design.tree request → length listed.units ≡ length request.units

@@ -7,12 +7,12 @@ use Rattle.gg_flat.specs.Circuit.{FlatCircuit, driver_at}
 use Rattle.gg_flat_tree.specs.Clocked.{clock_at}
 use Rattle.gg_flat.specs.Line.{value_at}
 use Rattle.gg_flat_tree.specs.Tree.{InstanceTree, instance_at, memory_at}
-use Rattle.gg_part.specs.Domains.{FollowsInside, inner_clocks, ports_inside}
+use Rattle.gg_part.specs.inside.Domains.{FollowsInside, inner_clocks, ports_inside}
 use Rattle.gg_part.specs.KeepsToTree.{KeepsToTree}
 use Rattle.gg_cut_plan.specs.Held.{AreHeldOnce}
 use Rattle.gg_cut_plan.proofs.KnownLemmas.{parents-before}
 use Rattle.gg_cut_split.proofs.ClosedLemmas.TreeLemmas.{innermost-one}
-use Rattle.gg_cut_parts.specs.Innermost.{IsLast, IsTimedBy}
+use Rattle.gg_cut_parts.specs.inside.Innermost.{IsLast, IsTimedBy}
 use Rattle.gg_cut_parts.proofs.TableLemmas.{last-innermost}
 
 module _ (circuit : FlatCircuit) (tree : InstanceTree) (keeps : KeepsToTree circuit tree) (is_home : ℕ → Bool) (inner : List (List (Option ℕ))) (each : (k : ℕ) → k < length tree.instances → get_or inner k [] ≡ inner_clocks is_home tree k) where

@@ -12,17 +12,18 @@ use Rattle.gg_order.specs.Design.{Ordered}
 use Rattle.gg_part.specs.declared.part.Clocking.{Clocking}
 use Rattle.gg_part.specs.declared.part.Part.{Part}
 use Rattle.gg_part.specs.Building.{AreHeld}
-use Rattle.gg_part.specs.Clocking.{AreTimed, IsTimed}
+use Rattle.gg_part.specs.inside.Clocking.{AreTimed, IsTimed}
 use Rattle.gg_part.specs.Part.{IsPart}
 use Rattle.gg_cut_plan.specs.declared.listed.Listed.{Listed}
 use Rattle.gg_cut_plan.specs.Direct.{Hub, routes}
-use Rattle.gg_cut_plan.specs.Plan.{channels_to, channels_from, signals_of, givens_of, IsCutPart, Makes, machine_clocks}
-use Rattle.gg_cut_split.specs.closed.Apart.{AreApart}
+use Rattle.gg_cut_plan.specs.Plan.{channels_to, channels_from, signals_of, givens_of, IsCutPart, machine_clocks}
+use Rattle.gg_cut_plan.specs.inside.Plan.{Makes}
+use Rattle.gg_cut_split.specs.inside.Apart.{AreApart}
 use Rattle.gg_cut_split.proofs.ClosedLemmas.ListLemmas.{Somewhere, map-cases}
-use Rattle.gg_cut_split.specs.again.Again.{HasSignal, IsUnitAgain, again_at, cut_wires, unit_first}
-use Rattle.gg_cut_parts.specs.Domains.{AreUnitClocks}
+use Rattle.gg_cut_split.specs.inside.Again.{HasSignal, IsUnitAgain, again_at, cut_wires, unit_first}
+use Rattle.gg_cut_parts.specs.inside.Domains.{AreUnitClocks}
 use Rattle.gg_cut_parts.proofs.DomainTimes.{machine-timed}
-use Rattle.gg_cut_parts.specs.MovedPart.{IsUnitPart, IsUnitRouted, IsUnitShare, IsMovedPiece, IsFollower, HoldAgain}
+use Rattle.gg_cut_parts.specs.inside.MovedPart.{IsUnitPart, IsUnitRouted, IsUnitShare, IsMovedPiece, IsFollower, HoldAgain}
 use Rattle.gg_cut_parts.proofs.RoutedLemmas.{to-unit, from-unit}
 use Rattle.gg_cut_parts.proofs.MovedUnitLemmas.{behind-first, counterparts-once, hold-again, counterparts-within, givens-known, banks-again}
 use Rattle.gg_cut_parts.proofs.MovedPartLemmas.{moved-part, moved-alike}

@@ -9,14 +9,15 @@ use Rattle.gg_order.specs.Design.{Ordered}
 use Rattle.gg_part.specs.declared.part.Part.{Part}
 use Rattle.gg_part.specs.Part.{IsPart}
 use Rattle.gg_part.specs.Building.{AreHeld}
-use Rattle.gg_flat.specs.InOrder.{IsAlong, IsInOrder}
+use Rattle.gg_flat.specs.inside.InOrder.{IsAlong}
+use Rattle.gg_flat.specs.InOrder.{IsInOrder}
 use Rattle.gg_cut_plan.specs.declared.listed.Listed.{Listed}
 use Rattle.gg_cut_plan.specs.declared.wires.Wire.{Wire}
 use Rattle.gg_cut_plan.specs.Plan.{wire_at, channels_to, channels_from, signals_of, givens_of, MakesBy, Takes, HasMemory, IsCutPart, machine_clocks}
 use Rattle.gg_cut_plan.proofs.RangeLemmas.{filter-below}
 use Rattle.gg_cut_split.specs.declared.share.Share.{Share}
 use Rattle.gg_cut_plan.specs.Direct.{Hub, routes}
-use Rattle.gg_cut_routes.specs.Share.{IsPlanShare}
+use Rattle.gg_cut_routes.specs.inside.Share.{IsPlanShare}
 
 -- ---- channels are numbers below their count
 

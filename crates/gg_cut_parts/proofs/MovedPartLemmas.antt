@@ -25,17 +25,17 @@ use Rattle.gg_order.specs.Design.{Ordered}
 use Rattle.gg_part.specs.declared.part.Clocking.{Clocking}
 use Rattle.gg_part.specs.declared.part.Part.{Part}
 use Rattle.gg_part.specs.Building.{Holds, AreHeld}
-use Rattle.gg_part.specs.Clocking.{AreTimed, IsTimed, LeadsTo, PortsFollow, clocks_of_ports}
+use Rattle.gg_part.specs.inside.Clocking.{AreTimed, IsTimed, LeadsTo, PortsFollow, clocks_of_ports}
 use Rattle.gg_flat.specs.InOrder.{IsInOrder}
 use Rattle.gg_part.specs.Part.{IsPart, IsFrom, IsRegisterFrom, IsMemoryFrom, RegisterBelow, MemoryBelow, in_whole}
 use Rattle.gg_cut_plan.specs.declared.listed.Listed.{Listed}
 use Rattle.gg_cut_plan.specs.Alike.{IsAlike}
 use Rattle.gg_cut_plan.specs.Plan.{channels_to, signals_of, Takes, HasMemory, machine_clocks}
 use Rattle.gg_cut_split.proofs.ClosedLemmas.ListLemmas.{map-cases}
-use Rattle.gg_cut_split.specs.again.Again.{IsUnitAgain, HasSignal, again_at, cut_wires}
-use Rattle.gg_cut_parts.specs.Domains.{AreUnitClocks}
+use Rattle.gg_cut_split.specs.inside.Again.{IsUnitAgain, HasSignal, again_at, cut_wires}
+use Rattle.gg_cut_parts.specs.inside.Domains.{AreUnitClocks}
 use Rattle.gg_cut_parts.proofs.DomainTimes.{register-same, ports-same}
-use Rattle.gg_cut_parts.specs.MovedPart.{IsUnitPart, IsUnitShare, AreGivens, IsMovedPiece, IsMovedPart}
+use Rattle.gg_cut_parts.specs.inside.MovedPart.{IsUnitPart, IsUnitShare, AreGivens, IsMovedPiece, IsMovedPart}
 use Rattle.gg_cut_parts.proofs.MovedUnitLemmas.{among-has, counterpart-one, counterparts-once, counterpart-driver, has-memory, held-by, registers-within, register-there, memories-within, memory-there, counterparts-within, counterpart-of}
 use Rattle.gg_flat.specs.Renaming.{numbers_by, renamed_driver, renamed_memory, renamed_reader, renamed_register, renamed_writer}
 

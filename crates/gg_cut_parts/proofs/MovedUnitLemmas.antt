@@ -17,10 +17,11 @@ use Rattle.gg_part.specs.declared.part.Part.{Part}
 use Rattle.gg_part.specs.Building.{Holds}
 use Rattle.gg_part.specs.Part.{IsFrom, in_whole}
 use Rattle.gg_cut_plan.specs.declared.listed.Listed.{Listed}
-use Rattle.gg_cut_plan.specs.Plan.{channels_to, signals_of, Makes, HasMemory}
+use Rattle.gg_cut_plan.specs.Plan.{channels_to, signals_of, HasMemory}
+use Rattle.gg_cut_plan.specs.inside.Plan.{Makes}
 use Rattle.gg_cut_split.proofs.ClosedLemmas.ListLemmas.{map-cases, AllPairs-map}
-use Rattle.gg_cut_split.specs.again.Again.{IsUnitAgain, HasSignal, again_at, cut_wires, unit_first}
-use Rattle.gg_cut_parts.specs.MovedPart.{HoldAgain, IsUnitPart, IsUnitShare, AreGivens}
+use Rattle.gg_cut_split.specs.inside.Again.{IsUnitAgain, HasSignal, again_at, cut_wires, unit_first}
+use Rattle.gg_cut_parts.specs.inside.MovedPart.{HoldAgain, IsUnitPart, IsUnitShare, AreGivens}
 use Rattle.gg_flat.specs.Renaming.{numbers_by, renamed_driver, renamed_memory, renamed_register, signals_by}
 
 module _ (design : Ordered) (listed : Listed) (clocking : Clocking) (m n : ℕ) (leader : Part) (again : IsUnitAgain design listed m n) (own_givens : List ℕ) (cut : IsUnitPart design listed clocking m own_givens leader) where

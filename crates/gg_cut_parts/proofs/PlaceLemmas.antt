@@ -3,7 +3,7 @@ use Rattle.std.proofs.Common.{◌≡◌, ℕ, ◌<◌, List, length, map, get_or
 use Rattle.std.specs.Prelude.{All, Contains}
 use Rattle.std.proofs.lemmas.List.{get_or-map, length-map, same_lists, get_or_default}
 use Rattle.gg_flat.specs.Line.{value_at}
-use Rattle.gg_part.specs.Numbers.{ArePlaces}
+use Rattle.gg_part.specs.inside.Numbers.{ArePlaces}
 
 -- ---- places
 

@@ -12,7 +12,7 @@ use Rattle.gg_flat.proofs.ListLemmas.{Contains-map}
 use Rattle.gg_part.specs.declared.part.Part.{Part}
 use Rattle.gg_part.specs.Building.{AreHeld}
 use Rattle.gg_part.specs.Part.{IsPart, IsFrom}
-use Rattle.gg_cut_parts.specs.MovedPart.{HoldAgain, HasAgain}
+use Rattle.gg_cut_parts.specs.inside.MovedPart.{HoldAgain, HasAgain}
 
 module _ (whole : FlatCircuit) (part : Part) (globals : List ℕ) where
   pub again-none : (registers : ℕ → ℕ) (table : List ℕ) → HasAgain part registers table 0

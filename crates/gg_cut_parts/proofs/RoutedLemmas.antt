@@ -6,19 +6,19 @@ use Rattle.gg_order.specs.Design.{Ordered, IsDesign}
 use Rattle.gg_part.specs.declared.part.Clocking.{Clocking}
 use Rattle.gg_part.specs.declared.part.Part.{Part}
 use Rattle.gg_part.specs.Building.{AreHeld}
-use Rattle.gg_part.specs.Clocking.{IsTimed}
+use Rattle.gg_part.specs.inside.Clocking.{IsTimed}
 use Rattle.gg_partfile.specs.declared.request.Request.{Request}
 use Rattle.gg_cut_plan.specs.declared.listed.Listed.{Listed}
 use Rattle.gg_cut_plan.specs.Listed.{listed_of}
 use Rattle.gg_cut_plan.specs.Machines.{first_source}
 use Rattle.gg_cut_plan.specs.Direct.{Hub, hub_of, is_piped, plan_hub, routes, is_driven}
 use Rattle.gg_cut_plan.specs.Plan.{channels_from, givens_of, IsCutPart}
-use Rattle.gg_cut_split.specs.closed.Apart.{AreApart}
-use Rattle.gg_cut_routes.specs.Share.{IsPlanShare}
+use Rattle.gg_cut_split.specs.inside.Apart.{AreApart}
+use Rattle.gg_cut_routes.specs.inside.Share.{IsPlanShare}
 use Rattle.gg_cut_routes.proofs.PlanLemmas.{plan-base}
 use Rattle.gg_cut_routes.proofs.UnitLemmas.{ins-still, givens-still}
 use Rattle.gg_cut_routes.proofs.ChoiceLemmas.{had, has-still}
-use Rattle.gg_cut_parts.specs.MovedPart.{IsUnitPart, IsUnitRouted, IsUnitShare}
+use Rattle.gg_cut_parts.specs.inside.MovedPart.{IsUnitPart, IsUnitRouted, IsUnitShare}
 
 pub unit-routed : (design : Ordered) (listed : Listed) (piped driven : ℕ → Bool) (direct : Bool) (m : ℕ) → IsDesign design → KeepsToTree design.circuit design.tree → AreApart design.tree listed → m ≢ 0 → IsUnitRouted design listed (hub_of design.circuit design.tree listed piped driven direct) m
 unit-routed design listed piped driven direct m is keeps apart other =

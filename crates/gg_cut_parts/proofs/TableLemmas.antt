@@ -9,13 +9,14 @@ use Rattle.gg_flat.specs.Line.{value_at}
 use Rattle.gg_flat.specs.WellFormed.{IsClock, IsWellFormed, MayDrive}
 use Rattle.gg_flat_tree.specs.declared.tree.Instance.{Instance}
 use Rattle.gg_flat.specs.declared.piece.Register.{Register}
-use Rattle.gg_flat_tree.specs.Clocked.{AreParentsBefore, IsClocked, clock_at, clocks_from, port_clocks, top_clocks}
+use Rattle.gg_flat_tree.specs.inside.Clocked.{AreParentsBefore}
+use Rattle.gg_flat_tree.specs.Clocked.{IsClocked, clock_at, clocks_from, port_clocks, top_clocks}
 use Rattle.gg_flat_tree.specs.Tree.{InstanceTree, IsInnermost, instance_at, memory_at}
 use Rattle.gg_part.specs.Copies.{above}
-use Rattle.gg_part.specs.Domains.{inner_clocks}
+use Rattle.gg_part.specs.inside.Domains.{inner_clocks}
 use Rattle.gg_part.proofs.DomainLemmas.{clock_at-twice, inner-known, inner-leads, top-length}
-use Rattle.gg_part.specs.Clocking.{LeadsTo}
-use Rattle.gg_cut_parts.specs.Innermost.{IsLast, IsTimedBy}
+use Rattle.gg_part.specs.inside.Clocking.{LeadsTo}
+use Rattle.gg_cut_parts.specs.inside.Innermost.{IsLast, IsTimedBy}
 
 -- one more
 pub clocks-push : (a n m : ℕ) → a + n ≡ m → clocks_from a n ++ Some m ∷ [] ≡ clocks_from a (n + 1)

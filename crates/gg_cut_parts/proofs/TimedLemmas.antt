@@ -6,18 +6,19 @@ use Rattle.gg_flat.specs.WellFormed.{IsWellFormed}
 use Rattle.gg_part.specs.KeepsToTree.{KeepsToTree}
 use Rattle.gg_order.specs.Design.{Ordered}
 use Rattle.gg_part.specs.declared.part.Clocking.{Clocking}
-use Rattle.gg_part.specs.Clocking.{AreTimed}
+use Rattle.gg_part.specs.inside.Clocking.{AreTimed}
 use Rattle.gg_cut_plan.specs.declared.listed.Listed.{Listed}
 use Rattle.gg_cut_plan.specs.Direct.{Hub, routes}
 use Rattle.gg_cut_plan.specs.Machines.{first_memory, first_source, first_unit}
-use Rattle.gg_cut_plan.specs.Plan.{channels_to, machine_clocks, signals_of, Makes}
-use Rattle.gg_cut_split.specs.closed.Apart.{AreApart}
+use Rattle.gg_cut_plan.specs.Plan.{channels_to, machine_clocks, signals_of}
+use Rattle.gg_cut_plan.specs.inside.Plan.{Makes}
+use Rattle.gg_cut_split.specs.inside.Apart.{AreApart}
 use Rattle.gg_cut_parts.specs.declared.domains.Domains.{Domains}
-use Rattle.gg_cut_parts.specs.Domains.{AreDomains}
+use Rattle.gg_cut_parts.specs.inside.Domains.{AreDomains}
 use Rattle.gg_cut_parts.proofs.DomainTimes.{machine-timed, top-clocks, whole-timed}
-use Rattle.gg_cut_split.specs.again.Again.{HasSignal, cut_wires}
-use Rattle.gg_cut_routes.specs.Share.{IsPlanShare}
-use Rattle.gg_cut_parts.specs.MovedPart.{IsUnitRouted}
+use Rattle.gg_cut_split.specs.inside.Again.{HasSignal, cut_wires}
+use Rattle.gg_cut_routes.specs.inside.Share.{IsPlanShare}
+use Rattle.gg_cut_parts.specs.inside.MovedPart.{IsUnitRouted}
 
 module _ (design : Ordered) (listed : Listed) (hub : Hub) (keeps : KeepsToTree design.circuit design.tree) (apart : AreApart design.tree listed) (formed : IsWellFormed design.circuit) (domains : Domains) (are : AreDomains design listed domains) (ins outs globals memories : List ℕ) (clocking : Clocking) where
   -- a machine that is no unit

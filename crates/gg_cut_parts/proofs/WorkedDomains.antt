@@ -7,8 +7,8 @@ use Rattle.std.specs.Prelude.{◌==◌, codes}
 use Rattle.std.specs.List.{list_any}
 use Rattle.gg_flat_tree.specs.Clocked.{top_clocks}
 use Rattle.gg_flat_tree.specs.Tree.{InstanceTree}
-use Rattle.gg_part.specs.Domains.{inner_clocks}
-use Rattle.gg_part.specs.Clocking.{LeadsTo}
+use Rattle.gg_part.specs.inside.Domains.{inner_clocks}
+use Rattle.gg_part.specs.inside.Clocking.{LeadsTo}
 use Rattle.gg_cut_plan.specs.declared.listed.Listed.{Listed}
 use Rattle.gg_cut_plan.specs.Plan.{machine_clocks}
 

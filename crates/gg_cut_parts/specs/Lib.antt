@@ -1,4 +1,1 @@
-pub mod Draft
-pub mod MovedPart
-pub mod Innermost
-pub mod Domains
+pub mod inside

@@ -4,7 +4,7 @@ ghost use Rattle.gg_part.specs.KeepsToTree.{KeepsToTree};
 ghost use Rattle.gg_cut_plan.specs.Held.{AreHeldOnce};
 ghost use Rattle.gg_cut_plan.specs.Machines.{first_unit, first_memory};
 ghost use Rattle.gg_cut_plan.specs.Plan.{clock_home};
-ghost use Rattle.gg_cut_parts.specs.Domains.{AreDomains, AreUnitClocks};
+ghost use Rattle.gg_cut_parts.specs.inside.Domains.{AreDomains, AreUnitClocks};
 
 use crate::tables::{inner_table, innermost, port_table, register_table};
 use crate::whole::whole_clocking;

@@ -1,7 +1,7 @@
 //! `Draft`: a cut in the making.
 ghost use Rattle.std.specs.Prelude.{◌≡◌};
-ghost use Rattle.gg_cut_plan.specs.Machines.{numbering_of};
-ghost use Rattle.gg_cut_parts.specs.Draft.{IsDraft};
+ghost use Rattle.gg_cut_plan.specs.inside.Machines.{numbering_of};
+ghost use Rattle.gg_cut_parts.specs.inside.Draft.{IsDraft};
 
 use gg_cut_plan::{Listed, Models, Numbering, Wire};
 use gg_cut_routes::Channels;

@@ -5,12 +5,12 @@ ghost use Rattle.gg_flat.specs.Circuit.{driver_at};
 ghost use Rattle.gg_flat.specs.Line.{value_at};
 ghost use Rattle.gg_part.specs.Moved.{shifted};
 ghost use Rattle.gg_part.specs.Building.{AreHeld};
-ghost use Rattle.gg_part.specs.Clocking.{IsTimed};
+ghost use Rattle.gg_part.specs.inside.Clocking.{IsTimed};
 ghost use Rattle.gg_part.specs.Part.{IsPart};
 ghost use Rattle.gg_cut_plan.specs.Machines.{first_unit, first_memory};
-ghost use Rattle.gg_cut_split.specs.again.Again.{IsUnitAgain, unit_first};
-ghost use Rattle.gg_cut_parts.specs.Draft.{draft_hub, IsDraft, IsDraftPart, IsMachineDraft};
-ghost use Rattle.gg_cut_parts.specs.MovedPart.{IsFollower, HoldAgain, HasAgain};
+ghost use Rattle.gg_cut_split.specs.inside.Again.{IsUnitAgain, unit_first};
+ghost use Rattle.gg_cut_parts.specs.inside.Draft.{draft_hub, IsDraft, IsDraftPart, IsMachineDraft};
+ghost use Rattle.gg_cut_parts.specs.inside.MovedPart.{IsFollower, HoldAgain, HasAgain};
 
 use crate::draft::Draft;
 use crate::lists::{filled, picked};

@@ -6,7 +6,7 @@ ghost use Rattle.gg_flat.specs.Circuit.{no_circuit};
 ghost use Rattle.gg_flat.specs.Line.{value_at};
 ghost use Rattle.gg_flat_tree.specs.Tree.{path_at};
 ghost use Rattle.gg_flat.specs.WellFormed.{IsWellFormed};
-ghost use Rattle.gg_cut_parts.specs.MovedPart.{IsMovedPiece};
+ghost use Rattle.gg_cut_parts.specs.inside.MovedPart.{IsMovedPiece};
 
 use crate::paths::signal_name;
 use crate::places::found_at;

@@ -2,7 +2,7 @@
 ghost use Rattle.std.specs.Prelude.{◌≡◌, ◌<◌, length, All, AllPairs, IfOk};
 ghost use Rattle.gg_cut_plan.specs.Machines.{first_source};
 ghost use Rattle.gg_cut_plan.specs.Plan.{signals_of, givens_of};
-ghost use Rattle.gg_cut_parts.specs.Draft.{IsMachineDraft, IsDraftPart, IsUnitTimed};
+ghost use Rattle.gg_cut_parts.specs.inside.Draft.{IsMachineDraft, IsDraftPart, IsUnitTimed};
 
 use crate::machine_draft::MachineDraft;
 use gg_cut_plan::Wire;

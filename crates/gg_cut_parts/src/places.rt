@@ -1,7 +1,7 @@
 //! The places of numbers in a list.
 ghost use Rattle.std.specs.Prelude.{◌≡◌, ◌<◌, ◌≤◌, ◌^◌, length, map, IfOk, All, Contains};
 ghost use Rattle.gg_flat.specs.Line.{value_at};
-ghost use Rattle.gg_part.specs.Numbers.{ArePlaces};
+ghost use Rattle.gg_part.specs.inside.Numbers.{ArePlaces};
 
 use crate::lists::{filled, picked};
 use std::alloc::{AllocError, Global};

@@ -3,11 +3,12 @@ ghost use Rattle.std.specs.Prelude.{◌≡◌, ◌⊎◌, ◌↔◌, ℕ, ◌<�
 ghost use Rattle.gg_flat.specs.declared.piece.Driver.TheVariants.{Held};
 ghost use Rattle.gg_flat.specs.Circuit.{driver_at};
 ghost use Rattle.gg_flat.specs.WellFormed.{IsWellFormed};
-ghost use Rattle.gg_flat_tree.specs.Clocked.{AreParentsBefore, clock_at, clocks_from, through_parent};
+ghost use Rattle.gg_flat_tree.specs.inside.Clocked.{AreParentsBefore};
+ghost use Rattle.gg_flat_tree.specs.Clocked.{clock_at, clocks_from, through_parent};
 ghost use Rattle.gg_flat.specs.Line.{value_at};
 ghost use Rattle.gg_flat_tree.specs.Tree.{instance_at};
-ghost use Rattle.gg_cut_parts.specs.Innermost.{IsLast, IsTimedBy};
-ghost use Rattle.gg_part.specs.Domains.{inner_clocks};
+ghost use Rattle.gg_cut_parts.specs.inside.Innermost.{IsLast, IsTimedBy};
+ghost use Rattle.gg_part.specs.inside.Domains.{inner_clocks};
 
 use gg_flat::{Driver, Piece};
 use gg_flat_tree::{ClockNumbers, Instance, MemoryInstance, Tree, clock_at, clocks_at};

@@ -1,8 +1,8 @@
 //! The clocks of a circuit that its registers and the ports of its memories follow.
 ghost use Rattle.std.specs.Prelude.{◌≡◌, ◌<◌, ◌^◌, length, map, IfOk};
 ghost use Rattle.gg_flat_tree.specs.Clocked.{clocks_from};
-ghost use Rattle.gg_part.specs.Clocking.{clocks_of_ports};
-ghost use Rattle.gg_cut_parts.specs.Domains.{AreWholeClocks};
+ghost use Rattle.gg_part.specs.inside.Clocking.{clocks_of_ports};
+ghost use Rattle.gg_cut_parts.specs.inside.Domains.{AreWholeClocks};
 
 use crate::tables::numbered;
 use gg_bits::Items;

@@ -9,7 +9,7 @@ use Rattle.gg_flat.specs.declared.piece.Driver.TheVariants.{Held}
 use Rattle.gg_flat.specs.Circuit.{FlatCircuit, driver_at}
 use Rattle.gg_order.specs.Design.{Ordered, IsDesign}
 use Rattle.gg_part.proofs.FrameLemmas.{length-once}
-use Rattle.gg_cut_plan.specs.Machines.{machine_count}
+use Rattle.gg_cut_plan.specs.inside.Machines.{machine_count}
 use Rattle.gg_cut_plan.specs.declared.listed.Listed.{Listed}
 use Rattle.gg_cut_plan.specs.declared.plan.Plan.{Plan}
 use Rattle.gg_cut_split.proofs.ClosedLemmas.FaultlessLemmas.{faultless-few}
@@ -18,8 +18,8 @@ use Rattle.gg_cut_routes.proofs.FewLemmas as routed
 use Rattle.gg_cut_routes.proofs.RoutedLemmas.{plan-routed}
 use Rattle.gg_cut_reference.specs.Made.{AllHeld}
 use Rattle.gg_cut_reference.proofs.HolderLemmas.{first_holder, holder-found}
-use Rattle.gg_cut_pipes.specs.CanPipe.{CanPipe}
-use Rattle.gg_cut_pipes.specs.Tables.{piped_signals}
+use Rattle.gg_cut_pipes.specs.inside.CanPipe.{CanPipe}
+use Rattle.gg_cut_pipes.specs.inside.Tables.{piped_signals}
 use Rattle.gg_cut_pipes.proofs.PipingLemmas.{few-pipes}
 
 pub few-machines : (design : Ordered) (plan : Plan) → IsDesign design → CanPipe design plan → machine_count design.circuit plan.listed ≤ 33025

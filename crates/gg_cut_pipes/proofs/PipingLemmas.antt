@@ -32,7 +32,7 @@ use Rattle.gg_cut_plan.proofs.WireLemmas.{unit_or_hub-below}
 use Rattle.gg_cut_reference.proofs.FittingLemmas.LowLemmas.{seat-back}
 use Rattle.gg_cut_reference.proofs.FittingLemmas.SeatedLemmas.{seat-low}
 use Rattle.gg_cut_reference.proofs.FittingLemmas.WireLemmas.{same-test}
-use Rattle.gg_cut_split.specs.closed.Apart.{AreApart}
+use Rattle.gg_cut_split.specs.inside.Apart.{AreApart}
 use Rattle.gg_cut_split.proofs.ClosedLemmas.FaultlessLemmas.{faultless-apart}
 use Rattle.gg_cut_split.proofs.ClosedLemmas.ListLemmas.{AllPairs-map, map-cases}
 use Rattle.gg_cut_split.proofs.ClosedLemmas.PlaceLemmas.{same-bool}
@@ -42,9 +42,10 @@ use Rattle.gg_cut_routes.proofs.RoutedLemmas.{routed-base}
 use Rattle.gg_cut_split.specs.declared.owned.Owned.{Owned}
 use Rattle.gg_cut_pipes.specs.declared.tables.Tables.{Tables}
 use Rattle.gg_cut_reference.specs.Links.{is_carried, pipes_of, maker_of, seen_by}
-use Rattle.gg_cut_reference.specs.Made.{plan_reference, reference_of, views_in, holder_of, keeper_of, holds}
-use Rattle.gg_cut_pipes.specs.CanPipe.{CanPipe}
-use Rattle.gg_cut_pipes.specs.Tables.{views_by, seen_in, AreOwned, AreTables, CanFill, IsFilled, piped_places, piped_signals, piped_takers}
+use Rattle.gg_cut_reference.specs.Made.{plan_reference, reference_of, holder_of, keeper_of, holds}
+use Rattle.gg_cut_reference.specs.inside.Made.{views_in}
+use Rattle.gg_cut_pipes.specs.inside.CanPipe.{CanPipe}
+use Rattle.gg_cut_pipes.specs.inside.Tables.{views_by, seen_in, AreOwned, AreTables, CanFill, IsFilled, piped_places, piped_signals, piped_takers}
 use Rattle.gg_cut_reference.proofs.HolderLemmas.{holder-is, holds-is, keeper-is}
 use Rattle.gg_cut_reference.proofs.OneLemmas.{not-input, maker-low}
 use Rattle.gg_cut_reference.proofs.SeenLemmas.{pipes-known, pipes-once}

@@ -15,7 +15,8 @@ use Rattle.gg_order.specs.Marks.{is_marked}
 use Rattle.gg_part.proofs.FrameLemmas.{length-once}
 use Rattle.gg_cut_plan.specs.declared.plan.Channel.{Channel}
 use Rattle.gg_cut_plan.specs.declared.wires.Wire.{Wire}
-use Rattle.gg_cut_plan.specs.Listed.{first_place, AreMarks}
+use Rattle.gg_cut_plan.specs.Listed.{first_place}
+use Rattle.gg_cut_plan.specs.inside.Listed.{AreMarks}
 use Rattle.gg_cut_plan.specs.Plan.{wire_at, IsInner}
 use Rattle.gg_cut_plan.specs.Direct.{Hub, routes}
 use Rattle.gg_cut_plan.proofs.PathLemmas.{IsPlace, first_place-Some, first_place-None}
@@ -26,7 +27,7 @@ use Rattle.gg_cut_routes.proofs.RouteLemmas.{IsBase, routes-once}
 use Rattle.gg_cut_routes.proofs.ChoiceLemmas.{any-wire}
 use Rattle.gg_cut_split.specs.declared.owned.Owned.{Owned}
 use Rattle.gg_cut_pipes.specs.declared.tables.Tables.{Tables}
-use Rattle.gg_cut_pipes.specs.Tables.{kept_in, seen_in, IsFilled, held_by, AreHolding, AreTables, piped_places, piped_signals, piped_takers}
+use Rattle.gg_cut_pipes.specs.inside.Tables.{kept_in, seen_in, IsFilled, held_by, AreHolding, AreTables, piped_places, piped_signals, piped_takers}
 use Rattle.gg_cut_plan.specs.Held.{AreHeldOnce}
 use Rattle.gg_cut_reference.specs.Links.{pipes_of, taken_as, seen_by, maker_of, maker_or}
 use Rattle.gg_bits.specs.Lists.{number_or}

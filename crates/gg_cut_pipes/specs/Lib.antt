@@ -1,2 +1,1 @@
-pub mod Tables
-pub mod CanPipe
+pub mod inside

@@ -5,7 +5,7 @@ ghost use Rattle.gg_flat.specs.declared.piece.Driver.TheVariants.{Held};
 ghost use Rattle.gg_flat.specs.Circuit.{driver_at};
 ghost use Rattle.gg_order.specs.Marks.{is_marked};
 ghost use Rattle.gg_cut_plan.specs.Held.{AreHeldOnce};
-ghost use Rattle.gg_cut_pipes.specs.Tables.{IsFilled, AreHolding, held_by, piped_places, piped_signals, piped_takers, CanFill, AreTables};
+ghost use Rattle.gg_cut_pipes.specs.inside.Tables.{IsFilled, AreHolding, held_by, piped_places, piped_signals, piped_takers, CanFill, AreTables};
 
 use crate::tables::Tables;
 use gg_bits::{Ids, copied};

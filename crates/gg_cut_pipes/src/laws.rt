@@ -1,10 +1,10 @@
 //! Laws: facts about the definitions. Each is the contract of a function with an empty body.
 ghost use Rattle.std.specs.Prelude.{◌<◌, ◌≤◌, ◌+◌, ◌^◌, length};
-ghost use Rattle.gg_cut_plan.specs.Machines.{machine_count};
+ghost use Rattle.gg_cut_plan.specs.inside.Machines.{machine_count};
 ghost use Rattle.gg_cut_plan.specs.declared.plan.Plan.{Plan};
 ghost use Rattle.gg_order.specs.Design.{Ordered, IsDesign};
-ghost use Rattle.gg_cut_pipes.specs.CanPipe.{CanPipe};
-ghost use Rattle.gg_cut_pipes.specs.Tables.{piped_signals};
+ghost use Rattle.gg_cut_pipes.specs.inside.CanPipe.{CanPipe};
+ghost use Rattle.gg_cut_pipes.specs.inside.Tables.{piped_signals};
 
 /// Numbers of 32 bits suffice for what `pipe` numbers. The plan has at most 33,025 machines. The registers and the pipes are together fewer
 /// than 2^32, since each register is that of a signal.

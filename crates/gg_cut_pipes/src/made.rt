@@ -7,7 +7,7 @@ ghost use Rattle.gg_flat.specs.Line.{value_at};
 ghost use Rattle.gg_flat_tree.specs.Tree.{path_at};
 ghost use Rattle.gg_cut_reference.specs.Made.{seen_signal, pipe_signal, pipe_register, pipe_signals, pipe_registers, reference_of};
 ghost use Rattle.gg_bits.specs.Lists.{by_number};
-ghost use Rattle.gg_cut_pipes.specs.Tables.{seen_in, kept_in, views_by};
+ghost use Rattle.gg_cut_pipes.specs.inside.Tables.{seen_in, kept_in, views_by};
 ghost use Rattle.gg_flat.specs.Renaming.{renamed_memory, renamed_register, signals_by};
 
 use crate::tables::Tables;

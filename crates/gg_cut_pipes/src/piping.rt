@@ -2,8 +2,8 @@
 ghost use Rattle.std.specs.Prelude.{◌≡◌, ◌<◌, ◌≤◌, ◌+◌, ◌^◌, ◌++◌, length, IfOk};
 ghost use Rattle.std.specs.List.{range_with_len};
 ghost use Rattle.gg_cut_reference.specs.Made.{plan_reference};
-ghost use Rattle.gg_cut_pipes.specs.CanPipe.{CanPipe, piped_order};
-ghost use Rattle.gg_cut_pipes.specs.Tables.{piped_signals};
+ghost use Rattle.gg_cut_pipes.specs.inside.CanPipe.{CanPipe, piped_order};
+ghost use Rattle.gg_cut_pipes.specs.inside.Tables.{piped_signals};
 
 use crate::fill::{numbers_from, pipes_in, tables_of};
 use crate::made::made;

@@ -1,7 +1,7 @@
 //! `Tables`: who names what, by machine.
 ghost use Rattle.std.specs.Prelude.{◌≡◌};
 ghost use Rattle.gg_flat.specs.Line.{value_at};
-ghost use Rattle.gg_cut_pipes.specs.Tables.{kept_in, seen_in};
+ghost use Rattle.gg_cut_pipes.specs.inside.Tables.{kept_in, seen_in};
 
 use gg_bits::Ids;
 use gg_flat::{Renames, number_at};
@@ -81,7 +81,7 @@ pub(crate) struct Seen<'a> {
 }
 
 impl<'a> Renames for Seen<'a> {
-    ghost use Rattle.gg_cut_pipes.specs.Tables.{seen_in};
+    ghost use Rattle.gg_cut_pipes.specs.inside.Tables.{seen_in};
     ghost use Rattle.gg_flat.specs.Renaming.{signals_by};
 
     ghost numbers = { λ seen. signals_by (seen_in seen.tables.now seen.machine) };

@@ -9,7 +9,8 @@ use Rattle.std.proofs.Math.Bool.{or-false, or_assoc, or-true}
 use Rattle.std.proofs.lemmas.Bool.{or_left, or_right, ne_eqb}
 use Rattle.gg_flat_tree.specs.Tree.{InstanceTree, instance_at}
 use Rattle.gg_order.specs.Marks.{is_marked}
-use Rattle.gg_cut_plan.specs.Listed.{lies_within, lies, of_parent, ParentsBefore, AreMarks, instance_of}
+use Rattle.gg_cut_plan.specs.Listed.{lies_within, lies, of_parent, instance_of}
+use Rattle.gg_cut_plan.specs.inside.Listed.{ParentsBefore, AreMarks}
 use Rattle.gg_cut_plan.specs.Fault.{overlap, overlapping, first_clash}
 use Rattle.gg_cut_plan.proofs.FindLemmas.{rest-at}
 

@@ -11,9 +11,11 @@ use Rattle.gg_flat_tree.specs.Scoped.{reader_fields, writer_fields, writers_at, 
 use Rattle.gg_flat.proofs.ListLemmas.{once-apart}
 use Rattle.gg_cut_plan.specs.declared.wires.Wire.{Wire}
 use Rattle.gg_cut_plan.specs.declared.listed.Listed.{Listed}
-use Rattle.gg_cut_plan.specs.Listed.{owner_of_instance, is_among, AreMarks}
+use Rattle.gg_cut_plan.specs.Listed.{owner_of_instance, is_among}
+use Rattle.gg_cut_plan.specs.inside.Listed.{AreMarks}
 use Rattle.gg_cut_plan.specs.Machines.{first_memory, first_source, first_tray}
-use Rattle.gg_cut_plan.specs.Channels.{wire, numbered, flattened, port_wire, port_wires, reader_wires, writer_wires, field_wires, source_wires, tray_wires, wires_of, port_signals, channel_signals}
+use Rattle.gg_cut_plan.specs.Channels.{wire, numbered, flattened, port_wire, port_wires, reader_wires, writer_wires, field_wires, source_wires, tray_wires, wires_of}
+use Rattle.gg_cut_plan.specs.inside.Channels.{port_signals, channel_signals}
 use Rattle.gg_cut_plan.proofs.PathLemmas.{HoldsPath, holds-path}
 
 abbrev signal_of : Wire → ℕ

@@ -13,8 +13,9 @@ use Rattle.gg_flat_tree.specs.Tree.{InstanceTree, IsTree, instance_at, memory_at
 use Rattle.gg_flat_tree.specs.Scoped.{reader_fields, writer_fields, writers_at, memory_fields}
 use Rattle.gg_flat.proofs.ListLemmas.{some-item}
 use Rattle.gg_cut_plan.specs.declared.listed.Listed.{Listed}
-use Rattle.gg_cut_plan.specs.Listed.{ParentsBefore}
-use Rattle.gg_cut_plan.specs.Channels.{flattened, port_signals, channel_signals}
+use Rattle.gg_cut_plan.specs.inside.Listed.{ParentsBefore}
+use Rattle.gg_cut_plan.specs.Channels.{flattened}
+use Rattle.gg_cut_plan.specs.inside.Channels.{port_signals, channel_signals}
 
 -- each instance stands after its parent
 pub parents-before : (circuit : FlatCircuit) (tree : InstanceTree) → IsTree circuit tree → ParentsBefore tree

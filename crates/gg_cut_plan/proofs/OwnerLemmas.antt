@@ -5,8 +5,9 @@ use Rattle.std.proofs.lemmas.Bool.{cases_lt}
 use Rattle.std.proofs.lemmas.List.{take_more, length-take-le, get_or-set_same, get_or-set_other, length-set}
 use Rattle.gg_flat.specs.Line.{value_at}
 use Rattle.gg_flat_tree.specs.Tree.{InstanceTree, instance_at}
-use Rattle.gg_cut_plan.specs.Listed.{lies, ParentsBefore, first_place, unit_or_hub, owner_of_instance}
-use Rattle.gg_cut_plan.specs.Owners.{earlier, above_by, above}
+use Rattle.gg_cut_plan.specs.Listed.{lies, first_place, unit_or_hub, owner_of_instance}
+use Rattle.gg_cut_plan.specs.inside.Listed.{ParentsBefore}
+use Rattle.gg_cut_plan.specs.inside.Owners.{earlier, above_by, above}
 use Rattle.gg_cut_plan.proofs.ChainLemmas.{lies-parent, lies-alone}
 
 lt-suc : (a b : ℕ) → nat_lt (suc a) (suc b) ≡ nat_lt a b

@@ -23,7 +23,8 @@ use Rattle.gg_flat.specs.WellFormed.{IsWellFormed, MayDrive}
 use Rattle.gg_flat.specs.State.{State}
 use Rattle.gg_flat.specs.Settled.{Settled, driver_value}
 use Rattle.gg_cut_plan.specs.declared.wires.Wire.{Wire}
-use Rattle.gg_cut_plan.specs.Direct.{Hub, is_own, is_gone, origin_within, copied, if_wide, bare_of, direct_of, route, route_by, routes, IsSame}
+use Rattle.gg_cut_plan.specs.Direct.{Hub, is_own, is_gone, origin_within, copied, if_wide, bare_of, direct_of, route, route_by, routes}
+use Rattle.gg_cut_plan.specs.inside.Direct.{IsSame}
 use Rattle.gg_cut_plan.proofs.OriginLemmas.{some-clash, IsCopied, copied-is, Chain, Here, Copy, chain}
 use Rattle.gg_cut_plan.proofs.DirectLemmas.{IsFromBase, direct-is}
 

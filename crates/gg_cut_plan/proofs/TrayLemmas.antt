@@ -3,7 +3,7 @@ use Rattle.std.proofs.Common.{◌≡◌, ℕ, ◌+◌, ◌-◌, ◌<◌, ◌≤�
 use Rattle.std.proofs.lemmas.List.{get_or-append-add, get_or-drop, get_or-map, get_or-take, get_or_append_left, length-append, length-map, length-take-le, take-append-drop}
 use Rattle.gg_flat_tree.specs.Tree.{path_at}
 use Rattle.gg_order.specs.Design.{Ordered}
-use Rattle.gg_cut_plan.specs.Plan.{tray_names}
+use Rattle.gg_cut_plan.specs.inside.Plan.{tray_names}
 use Rattle.gg_cut_plan.specs.Seated.{output_count}
 
 module _ (design : Ordered) where

@@ -16,7 +16,8 @@ use Rattle.gg_partfile.specs.Request.{no_request}
 use Rattle.gg_cut_plan.specs.declared.fault.CutFault.TheVariants.{Doubled, UnknownMemory, Unmatched}
 use Rattle.gg_cut_plan.specs.declared.listed.Listed.{Listed}
 use Rattle.gg_cut_plan.specs.Listed.{listed_of, owner_of, lies}
-use Rattle.gg_cut_plan.specs.Channels.{wire, wires_of, channel_signals, channel_names}
+use Rattle.gg_cut_plan.specs.Channels.{wire, wires_of, channel_names}
+use Rattle.gg_cut_plan.specs.inside.Channels.{channel_signals}
 use Rattle.gg_cut_plan.specs.Hosts.{host_of}
 use Rattle.gg_cut_plan.specs.Fault.{fault_in}
 use Rattle.gg_cut_plan.proofs.WorkedPair.{output}

@@ -20,9 +20,11 @@ use Rattle.gg_cut_plan.specs.declared.fault.CutFault.TheVariants.{UnknownUnit, D
 use Rattle.gg_cut_plan.specs.declared.listed.Listed.{Listed}
 use Rattle.gg_cut_plan.specs.Listed.{listed_of, owner_of}
 use Rattle.gg_cut_plan.specs.declared.numbering.Role.TheVariants.{Source, Tray}
-use Rattle.gg_cut_plan.specs.Machines.{IsRole, first_unit, first_memory, first_source, first_tray, machine_count, numbering_of}
+use Rattle.gg_cut_plan.specs.inside.Machines.{IsRole, machine_count, numbering_of}
+use Rattle.gg_cut_plan.specs.Machines.{first_unit, first_memory, first_source, first_tray}
 use Rattle.gg_cut_plan.specs.Clocks.{ratios_of}
-use Rattle.gg_cut_plan.specs.Channels.{wire, wires_of, channel_signals, channel_names, capacity_of}
+use Rattle.gg_cut_plan.specs.Channels.{wire, wires_of, channel_names, capacity_of}
+use Rattle.gg_cut_plan.specs.inside.Channels.{channel_signals}
 use Rattle.gg_cut_plan.specs.Direct.{plan_signals}
 use Rattle.gg_cut_plan.specs.Seated.{plan_wires}
 use Rattle.gg_cut_plan.specs.Fault.{fault_in, too_many_units}

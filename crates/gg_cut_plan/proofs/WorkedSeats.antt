@@ -16,8 +16,10 @@ use Rattle.gg_cut_plan.specs.Channels.{wire, wires_of}
 use Rattle.gg_cut_plan.specs.Bridges.{Models, bridge_faults}
 use Rattle.gg_cut_plan.specs.Fault.{fault_text, first_fault_with}
 use Rattle.gg_bits.specs.Lists.{first_of}
-use Rattle.gg_cut_plan.specs.Plan.{machine_names, cut_names}
-use Rattle.gg_cut_plan.specs.Seated.{Bridges, plan_bridges, plan_wires, seat_of, machine_end, first_kept_tray, first_bridge, open_ins, open_outs, IsKept}
+use Rattle.gg_cut_plan.specs.Plan.{machine_names}
+use Rattle.gg_cut_plan.specs.inside.Plan.{cut_names}
+use Rattle.gg_cut_plan.specs.Seated.{Bridges, plan_bridges, plan_wires, seat_of, machine_end, first_kept_tray, first_bridge, open_ins, open_outs}
+use Rattle.gg_cut_plan.specs.inside.Seated.{IsKept}
 use Rattle.gg_cut_plan.proofs.WorkedPair.{input, output}
 
 -- ---- machines

@@ -1,7 +1,7 @@
 -- What is wrong with the bridges of a request, for a circuit and the models that are known.
 -- Source: ICCAD 2019 (bridges: models in the host's own code that stand at a target's ports); the numbers of faults and their order
 -- are this program's own.
-use Rattle.std.specs.Prelude.{◌≡◌, ℕ, All, ◌<◌, List, [], ◌∷◌, ◌++◌, Bool, true, false, not, ◌&&◌, ◌||◌, ◌==◌, if◌then◌else◌, Option, Some, None, option_map, option_and_then, length, map, take, slice_get, ◌-◌}
+use Rattle.std.specs.Prelude.{ℕ, List, [], ◌∷◌, ◌++◌, Bool, true, false, not, ◌&&◌, ◌||◌, ◌==◌, if◌then◌else◌, Option, Some, None, option_map, option_and_then, length, map, take, slice_get, ◌-◌}
 use Rattle.gg_bits.specs.Shape.{Shape}
 use Rattle.gg_bits.specs.declared.types.Kind.{Kind}
 use Rattle.gg_bits.specs.declared.types.Kind.TheVariants.{UInt, SInt}
@@ -11,7 +11,7 @@ use Rattle.gg_cut_plan.specs.Models.{model_names, model_circuits}
 use Rattle.gg_partfile.specs.declared.request.BridgeEntry.{BridgeEntry}
 use Rattle.gg_cut_plan.specs.declared.fault.CutFault.{CutFault}
 use Rattle.gg_cut_plan.specs.declared.fault.CutFault.TheVariants.{UnknownBridge, WrongPort, UnfitBridge}
-use Rattle.gg_cut_plan.specs.Listed.{AreMarks, is_among, place_of}
+use Rattle.gg_cut_plan.specs.Listed.{is_among, place_of}
 use Rattle.gg_cut_plan.specs.Channels.{channel_names}
 
 -- Models that are handed in, each with its name.
@@ -117,13 +117,3 @@ faults_after circuit outs models before (entry ∷ entries) = own_faults circuit
 -- The faults of the bridges of a request. The top's outputs are the first of the circuit's out-signals, its stops are behind them.
 abbrev pub bridge_faults : FlatCircuit → (stops : ℕ) → Models → List BridgeEntry → List (Option CutFault)
 bridge_faults circuit stops models entries = faults_after circuit (take (length circuit.outs - stops) circuit.outs) models none_before entries
-
--- These are the top's inputs, and outs of it, each with marks.
-pub record AreSides (circuit : FlatCircuit) (outs : List ℕ) (out_marks : List Bool) (ins : List ℕ) (in_marks : List Bool) : Type 0 where
-  pub known_outs : All (λ s. s < length circuit.signals) outs
-  pub marked_outs : AreMarks outs out_marks
-  pub many_outs : length out_marks ≡ length circuit.signals
-  pub inputs : ins ≡ circuit.ins
-  pub known_ins : All (λ s. s < length circuit.signals) ins
-  pub marked_ins : AreMarks ins in_marks
-  pub many_ins : length in_marks ≡ length circuit.signals

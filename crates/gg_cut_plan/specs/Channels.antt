@@ -7,7 +7,7 @@ use Rattle.gg_flat.specs.declared.memory.Reader.{Reader}
 use Rattle.gg_flat.specs.declared.memory.Writer.{Writer}
 use Rattle.gg_flat.specs.Circuit.{FlatCircuit, readers_at}
 use Rattle.gg_flat_tree.specs.Tree.{InstanceTree, path_at, instance_at, memory_at, parent_place}
-use Rattle.gg_flat_tree.specs.Scoped.{writers_at, memory_fields}
+use Rattle.gg_flat_tree.specs.Scoped.{writers_at}
 use Rattle.gg_cut_plan.specs.declared.wires.Wire.{Wire}
 use Rattle.gg_cut_plan.specs.declared.listed.Listed.{Listed}
 use Rattle.gg_cut_plan.specs.Listed.{owner_of_instance, owner_of}
@@ -70,18 +70,6 @@ wires_of circuit tree listed =
     ++ (numbered (port_wires tree listed.units) first_unit listed.units
     ++ (numbered (field_wires circuit tree listed.units) (first_memory listed) listed.memories
     ++ numbered (tray_wires circuit tree listed) (first_tray circuit listed) circuit.outs))
-
--- the signals of an instance's ports, in port order
-abbrev pub port_signals : InstanceTree → ℕ → List ℕ
-port_signals tree unit = map (λ port. port.signal) (instance_at tree unit).ports
-
--- The signals of the channels, in order: the top's inputs, the units' ports, the listed memories' fields, the top's
--- outputs.
-abbrev pub channel_signals : FlatCircuit → InstanceTree → Listed → List ℕ
-channel_signals circuit tree listed =
-    circuit.ins
-    ++ (flattened (port_signals tree) listed.units
-    ++ (flattened (λ j. memory_fields circuit (memory_at tree j).memory) listed.memories ++ circuit.outs))
 
 -- a channel is named by its signal's path
 abbrev pub channel_names : FlatCircuit → List ℕ → List (List ℕ)

@@ -4,8 +4,8 @@
 -- in-channel leaves, with its copies, if a direct channel has it as its origin and the hub needs it for nothing else.
 -- Source: MEMOCODE 2009 (a fork: one out-signal of a node on several channels); this program's profile for which
 -- channels are direct.
-pub use Rattle.gg_order.specs.Found.{op_names, line_names}
-use Rattle.std.specs.Prelude.{◌≡◌, ℕ, zero, suc, List, [], ◌∷◌, ◌++◌, Bool, true, false, not, ◌||◌, ◌&&◌, ◌==◌, if◌then◌else◌, Option, Some, None, length, map, filter, flat_map, find, option_and_then, is_some, slice_get}
+pub use Rattle.gg_order.specs.Found.{line_names}
+use Rattle.std.specs.Prelude.{ℕ, zero, suc, List, [], ◌∷◌, ◌++◌, Bool, true, false, not, ◌||◌, ◌&&◌, ◌==◌, if◌then◌else◌, Option, Some, None, length, map, filter, flat_map, find, option_and_then, is_some, slice_get}
 use Rattle.std.specs.List.{list_any, range_with_len}
 use Rattle.gg_flat.specs.declared.line.Node.{Node}
 use Rattle.gg_flat.specs.declared.line.Op.{Op}
@@ -14,12 +14,10 @@ use Rattle.gg_flat.specs.declared.piece.Register.{Register}
 use Rattle.gg_flat.specs.declared.piece.Reset.{Reset}
 use Rattle.gg_flat.specs.declared.piece.Driver.{Driver}
 use Rattle.gg_flat.specs.declared.piece.Driver.TheVariants.{Input, Held, MemoryWord, ReadRegister, Computed}
-use Rattle.gg_flat.specs.Line.{value_at, shape_at}
+use Rattle.gg_flat.specs.Line.{shape_at}
 use Rattle.gg_flat.specs.Circuit.{FlatCircuit, signal_shapes, driver_at}
 use Rattle.gg_flat_tree.specs.Tree.{InstanceTree, memory_at, path_at}
 use Rattle.gg_flat_tree.specs.Scoped.{memory_fields, stop_signals}
-use Rattle.gg_flat.specs.State.{State}
-use Rattle.gg_flat.specs.Settled.{Settled}
 use Rattle.gg_partfile.specs.declared.request.Request.{Request}
 use Rattle.gg_partfile.specs.Size.{all_driven}
 use Rattle.gg_cut_plan.specs.declared.wires.Wire.{Wire}
@@ -256,7 +254,3 @@ plan_routes circuit tree request = routes (plan_hub circuit tree request)
 -- the signals that the consumers of the plan's channels take
 abbrev pub plan_signals : FlatCircuit → InstanceTree → Request → List ℕ
 plan_signals circuit tree request = map (λ w. w.signal) (plan_routes circuit tree request)
-
--- in each settled row both signals of the channel have one value
-abbrev pub IsSame : FlatCircuit → Wire → Type 0
-IsSame circuit r = (state : State) (inputs row : List ℕ) → Settled circuit state inputs row → value_at row r.signal ≡ value_at row r.given

@@ -1,12 +1,10 @@
 pub mod Machines
 pub mod Listed
 pub mod Clocks
-pub mod Named
 pub mod Fault
 pub mod Channels
 pub mod Hosts
 pub mod Alike
-pub mod Owners
 pub mod Direct
 pub mod Models
 pub mod Bridges
@@ -14,3 +12,4 @@ pub mod Seated
 pub mod Plan
 pub mod Solves
 pub mod Held
+pub mod inside

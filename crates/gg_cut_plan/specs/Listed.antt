@@ -2,12 +2,11 @@
 -- which.
 -- Source: ICCAD 2019 (instances and memories of a target that are marked become models of their own); FIRRTL
 -- Specification, "Instances" and "Memories" for what an instance holds.
-use Rattle.std.specs.Prelude.{◌≡◌, ◌<◌, ℕ, zero, suc, ◌+◌, List, [], ◌∷◌, Bool, true, false, ◌||◌, ◌&&◌, ◌==◌, if◌then◌else◌, Option, Some, None, length, map, filter, option_map, unwrap_or, is_some, bytes_eq, nat_lt, nat_le}
+use Rattle.std.specs.Prelude.{ℕ, zero, suc, ◌+◌, List, [], ◌∷◌, Bool, true, false, ◌||◌, ◌&&◌, ◌==◌, if◌then◌else◌, Option, Some, None, length, map, filter, option_map, unwrap_or, is_some, bytes_eq, nat_lt, nat_le}
 use Rattle.std.specs.List.{list_any, range_with_len}
 use Rattle.gg_flat.specs.Circuit.{FlatCircuit}
 use Rattle.gg_flat_tree.specs.Tree.{InstanceTree, path_at, instance_at, memory_at}
 use Rattle.gg_flat_tree.specs.Scoped.{memory_fields}
-use Rattle.gg_order.specs.Marks.{is_marked}
 use Rattle.gg_cut_plan.specs.declared.listed.Listed.{Listed}
 use Rattle.gg_cut_plan.specs.Machines.{unit_number, memory_after}
 use Rattle.gg_partfile.specs.declared.request.Request.{Request}
@@ -60,14 +59,6 @@ lies_within tree (suc more) k i = (k == i) || of_parent (λ parent. lies_within 
 -- Instance k is instance i, or one below it. The number of instances above an instance is at most its place.
 abbrev pub lies : InstanceTree → ℕ → ℕ → Bool
 lies tree k i = lies_within tree k k i
-
--- each instance comes after its parent
-abbrev pub ParentsBefore : InstanceTree → Type 0
-ParentsBefore tree = (k parent : ℕ) → k < length tree.instances → (instance_at tree k).parent ≡ Some parent → parent < k
-
--- exactly these instances are marked
-abbrev pub AreMarks : List ℕ → List Bool → Type 0
-AreMarks units marks = (k : ℕ) → is_marked marks k ≡ list_any (λ unit. k == unit) units
 
 -- ---- what is listed
 

@@ -5,7 +5,7 @@ use Rattle.std.specs.Prelude.{◌≡◌, ◌≢◌, ◌↔◌, ◌⊎◌, ℕ, �
 use Rattle.std.specs.List.{range_with_len}
 use Rattle.gg_bits.specs.Shape.{shape}
 use Rattle.gg_flat.specs.Line.{value_at, shape_at}
-use Rattle.gg_flat.specs.Circuit.{FlatCircuit, signal_shapes}
+use Rattle.gg_flat.specs.Circuit.{signal_shapes}
 use Rattle.gg_flat_tree.specs.Clocked.{top_clocks}
 use Rattle.gg_flat_tree.specs.Tree.{InstanceTree, path_at, memory_at}
 use Rattle.gg_order.specs.Design.{Ordered}
@@ -23,7 +23,7 @@ use Rattle.gg_cut_plan.specs.declared.plan.Machine.{Machine}
 use Rattle.gg_cut_plan.specs.declared.plan.Channel.{Channel}
 use Rattle.gg_cut_plan.specs.declared.plan.Plan.{Plan}
 use Rattle.gg_cut_plan.specs.declared.listed.Listed.{Listed}
-use Rattle.gg_cut_plan.specs.Listed.{listed_of, owner_of, memory_owner, place_of}
+use Rattle.gg_cut_plan.specs.Listed.{listed_of, memory_owner, place_of}
 use Rattle.gg_cut_plan.specs.declared.wires.Wire.{Wire}
 use Rattle.gg_cut_plan.specs.Machines.{first_memory, first_source, first_tray}
 use Rattle.gg_cut_plan.specs.Channels.{wire, capacity_of}
@@ -61,10 +61,6 @@ givens_of wires channels = map (λ c. (wire_at wires c).given) channels
 -- a signal that no channel carries
 abbrev pub IsInner : List Wire → ℕ → Type 0
 IsInner wires s = (c : ℕ) → c < length wires → ¬ ((wire_at wires c).signal ≡ s)
-
--- Machine m gives signal s its value: it owns the signal and no channel carries it, or it gives a channel by the signal.
-abbrev pub Makes : FlatCircuit → InstanceTree → Listed → List Wire → ℕ → ℕ → Type 0
-Makes circuit tree listed wires m s = ((s < length circuit.signals) × (owner_of circuit tree listed s ≡ m) × IsInner wires s) ⊎ Contains (givens_of wires (channels_from wires m)) s
 
 -- machine m gets signal s from outside: it takes the signal's channel
 abbrev pub Takes : List Wire → ℕ → ℕ → Type 0
@@ -143,20 +139,6 @@ IsBody design request models listed hub m (Bridge bridge) =
 
 -- ---- machines
 
--- the names of the trays of the cut: of the outputs, and then of the stops
-abbrev pub tray_names : Ordered → List (List ℕ)
-tray_names design =
-    map (λ s. codes "out:" ++ path_at design.circuit.paths s) (take (output_count design) design.circuit.outs)
-    ++ map (λ s. codes "halt:" ++ path_at design.circuit.paths s) (drop (output_count design) design.circuit.outs)
-
--- the names of the machines of the cut without bridges, in their order
-abbrev pub cut_names : Ordered → Request → Listed → List (List ℕ)
-cut_names design request listed =
-    codes "hub:" ∷ (request.units
-    ++ map (path_at design.tree.memory_paths) listed.memories
-    ++ map (λ s. codes "in:" ++ path_at design.circuit.paths s) design.circuit.ins
-    ++ tray_names design)
-
 -- the names of the plan's trays, and of its machines, in their order
 abbrev pub open_tray_names : Ordered → Request → List (List ℕ)
 open_tray_names design request =
@@ -172,14 +154,6 @@ machine_names design request listed =
     ++ map (λ s. codes "in:" ++ path_at design.circuit.paths s) (open_ins design.circuit request)
     ++ open_tray_names design request
     ++ map (λ entry. codes "bridge:" ++ entry.name) request.bridges)
-
--- machine m of the cut without bridges
-pub record IsCutMachine (design : Ordered) (request : Request) (listed : Listed) (hub : Hub) (m : ℕ) (machine : Machine) : Type 0 where
-  pub name : machine.name ≡ path_at (cut_names design request listed) m
-  pub host : machine.host ≡ host_of request.units request.share m
-  pub body : IsCutBody design listed hub m machine.body
-  pub ins : machine.ins ≡ channels_to (routes hub) m
-  pub outs : machine.outs ≡ channels_from (routes hub) m
 
 -- machine m of the plan
 pub record IsMachine (design : Ordered) (request : Request) (models : Models) (listed : Listed) (hub : Hub) (m : ℕ) (machine : Machine) : Type 0 where

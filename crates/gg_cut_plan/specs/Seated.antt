@@ -2,7 +2,7 @@
 -- other machines. A bridge takes the place of the sources of what it drives and of the trays of what it sees. The machines that are
 -- left keep their order, and the bridges are behind them.
 -- Source: ICCAD 2019 (bridges: models in the host's own code that stand at a target's ports).
-use Rattle.std.specs.Prelude.{◌≡◌, ℕ, ◌+◌, ◌-◌, ◌<◌, List, length, take, filter, not, Bool, if◌then◌else◌, nat_lt, Option, Some, None, is_none, map}
+use Rattle.std.specs.Prelude.{ℕ, ◌+◌, ◌-◌, List, length, take, filter, not, Bool, if◌then◌else◌, nat_lt, Option, None, is_none, map}
 use Rattle.gg_bits.specs.Lists.{number_or, count_below}
 use Rattle.gg_flat.specs.Line.{value_at}
 use Rattle.gg_flat.specs.Circuit.{FlatCircuit}
@@ -70,32 +70,6 @@ seated_wire b w = record w { producer = seat_of b w.producer; consumer = seat_of
 -- all channels, at their machines' new numbers
 abbrev pub seated : Bridges → List Wire → List Wire
 seated b wires = map (seated_wire b) wires
-
--- bridges are among `count`
-pub record AreBridges (b : Bridges) : Type 0 where
-  pub drivers : (p k : ℕ) → b.driver p ≡ Some k → k < b.count
-  pub viewers : (p k : ℕ) → b.viewer p ≡ Some k → k < b.count
-
--- no bridge takes the place of machine m
-abbrev pub IsKept : Bridges → ℕ → Type 0
-IsKept b m = seat_of b m < first_bridge b
-
--- ---- what a bridge takes and gives
-
--- machine m is the tray of an output that bridge k sees
-pub record IsSeen (b : Bridges) (k m : ℕ) : Type 0 where
-  pub place : ℕ
-  pub known : place < b.outs
-  -- trays are behind all sources
-  pub is : m ≡ b.first + b.ins + place
-  pub viewer : b.viewer place ≡ Some k
-
--- machine m is the source of an input that bridge k drives
-pub record IsDriven (b : Bridges) (k m : ℕ) : Type 0 where
-  pub place : ℕ
-  pub known : place < b.ins
-  pub is : m ≡ b.first + place
-  pub driver : b.driver place ≡ Some k
 
 -- ---- the bridges of a request
 

@@ -4,7 +4,8 @@ ghost use Rattle.gg_flat.specs.Circuit.{FlatCircuit};
 ghost use Rattle.gg_flat_tree.specs.Tree.{InstanceTree};
 ghost use Rattle.gg_cut_plan.specs.declared.listed.Listed.{Listed};
 ghost use Rattle.gg_cut_plan.specs.declared.wires.Wire.{Wire};
-ghost use Rattle.gg_cut_plan.specs.Channels.{wires_of, channel_signals};
+ghost use Rattle.gg_cut_plan.specs.Channels.{wires_of};
+ghost use Rattle.gg_cut_plan.specs.inside.Channels.{channel_signals};
 
 /// The channels, with their machines, carry exactly the signals by which channels are counted and named, in the same
 /// order.

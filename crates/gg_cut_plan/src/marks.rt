@@ -1,7 +1,7 @@
 //! Marks on numbers.
 ghost use Rattle.std.specs.Prelude.{◌≡◌, ℕ, ◌<◌, false, length, All, IfOk};
 ghost use Rattle.gg_order.specs.Marks.{is_marked};
-ghost use Rattle.gg_cut_plan.specs.Listed.{AreMarks};
+ghost use Rattle.gg_cut_plan.specs.inside.Listed.{AreMarks};
 
 use std::alloc::{AllocError, Global};
 

@@ -1,7 +1,8 @@
 //! `Numbering`: the numbers of a cut's machines.
 ghost use Rattle.std.specs.Prelude.{◌≡◌, ◌+◌, ◌-◌, ◌<◌, ◌^◌, Some, None, if◌then◌else◌};
 ghost use Rattle.gg_flat.specs.Line.{value_at};
-ghost use Rattle.gg_cut_plan.specs.Machines.{unit_number, memory_after, source_after, tray_after, end_after, first_memory, machine_count, numbering_of, is_memory, IsRole};
+ghost use Rattle.gg_cut_plan.specs.Machines.{unit_number, memory_after, source_after, tray_after, first_memory, is_memory};
+ghost use Rattle.gg_cut_plan.specs.inside.Machines.{end_after, machine_count, numbering_of, IsRole};
 
 use crate::listed::Listed;
 use gg_flat::Piece;
@@ -29,7 +30,7 @@ pub enum Role {
 
 impl Model for Numbering {
     ghost use Rattle.std.specs.Prelude.{◌<◌, ◌^◌};
-    ghost use Rattle.gg_cut_plan.specs.Machines.{Counts, end_after};
+    ghost use Rattle.gg_cut_plan.specs.inside.Machines.{Counts, end_after};
 
     ghost Value = { Counts };
 

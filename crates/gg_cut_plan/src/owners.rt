@@ -2,8 +2,9 @@
 ghost use Rattle.std.specs.Prelude.{◌≡◌, ℕ, ◌<◌, ◌==◌, length, replicate, All, IfOk};
 ghost use Rattle.gg_flat.specs.Line.{value_at};
 ghost use Rattle.gg_flat_tree.specs.Tree.{instance_at};
-ghost use Rattle.gg_cut_plan.specs.Listed.{ParentsBefore, unit_or_hub, first_place, owner_of_instance};
-ghost use Rattle.gg_cut_plan.specs.Owners.{earlier, above};
+ghost use Rattle.gg_cut_plan.specs.inside.Listed.{ParentsBefore};
+ghost use Rattle.gg_cut_plan.specs.Listed.{unit_or_hub, first_place, owner_of_instance};
+ghost use Rattle.gg_cut_plan.specs.inside.Owners.{earlier, above};
 
 use crate::numbering::Numbering;
 use gg_flat_tree::Tree;

@@ -1,7 +1,8 @@
 //! The ratios of clocks that follow those of a circuit.
 ghost use Rattle.std.specs.Prelude.{◌≡◌, IfOk, map, slice_index_or, []};
 ghost use Rattle.gg_cut_plan.specs.Clocks.{every_tick, stop_clocks as clocks_of_stops, stop_ratios as ratios_of_stops};
-ghost use Rattle.gg_flat_tree.specs.Clocked.{AreParentsBefore, clock_at};
+ghost use Rattle.gg_flat_tree.specs.inside.Clocked.{AreParentsBefore};
+ghost use Rattle.gg_flat_tree.specs.Clocked.{clock_at};
 ghost use Rattle.gg_part.specs.PartRun.{part_ratios as ratios_of_part, ratio_at};
 
 use gg_clocks::Ratio;

@@ -7,7 +7,7 @@ use Rattle.gg_flat_tree.specs.Tree.{InstanceTree, IsTree, memory_at}
 use Rattle.gg_flat_tree.specs.Scoped.{IsScoped, memory_fields}
 use Rattle.gg_cut_plan.specs.declared.listed.Listed.{Listed}
 use Rattle.gg_cut_plan.specs.Plan.{HasMemory}
-use Rattle.gg_cut_split.specs.closed.Apart.{AreApart}
+use Rattle.gg_cut_split.specs.inside.Apart.{AreApart}
 use Rattle.gg_cut_split.proofs.ClosedLemmas.KindLemmas.{word-field}
 use Rattle.gg_cut_split.proofs.ClosedLemmas.ClosedLemmas.{fields-closed, words-made}
 use Rattle.gg_cut_split.proofs.ClosedLemmas.TreeLemmas.{innermost-known}

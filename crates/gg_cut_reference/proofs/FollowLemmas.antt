@@ -22,12 +22,13 @@ use Rattle.gg_part.specs.PartRun.{part_rows, part_start}
 use Rattle.gg_part.specs.declared.part.Part.{Part}
 use Rattle.gg_cut_plan.specs.Plan.{wire_at, channels_to, channels_from}
 use Rattle.gg_cut_plan.specs.Direct.{Hub, routes}
-use Rattle.gg_cut_routes.specs.Routes.{GivesInput}
-use Rattle.gg_cut_reference.specs.Reference.{IsReference}
-use Rattle.gg_cut_reference.specs.Links.{pipes_of, seen_by, maker_of, views_of, taken_as, AreHolders}
+use Rattle.gg_cut_routes.specs.inside.Routes.{GivesInput}
+use Rattle.gg_cut_reference.specs.inside.Reference.{IsReference}
+use Rattle.gg_cut_reference.specs.Links.{pipes_of, seen_by, maker_of, views_of, taken_as}
+use Rattle.gg_cut_reference.specs.inside.Links.{AreHolders}
 use Rattle.gg_cut_reference.specs.Made.{reference}
 use Rattle.gg_cut_plan.specs.Solves.{AreRows}
-use Rattle.gg_cut_reference.specs.Follows.{Follows, given_column, taken_column}
+use Rattle.gg_cut_reference.specs.inside.Follows.{Follows, given_column, taken_column}
 use Rattle.gg_cut_routes.proofs.ChoiceLemmas.{any-wire}
 use Rattle.gg_cut_routes.proofs.RouteLemmas.{IsBase}
 use Rattle.gg_cut_reference.proofs.MadeLemmas.{is-reference}

@@ -20,7 +20,8 @@ use Rattle.gg_flat.proofs.ListLemmas.{some-item}
 use Rattle.gg_flat.specs.Renaming.{signals_by, renamed_driver, renamed_line, renamed_memory, renamed_reader, renamed_register, renamed_writer}
 use Rattle.gg_flat.proofs.RenamedLineLaws.{source-there}
 use Rattle.gg_flat.proofs.RenamedLaws.{register-there, memory-there, reader_driver-renamed}
-use Rattle.gg_cut_reference.specs.Reference.{Views, IsReference, IsSeen, IsPiped, IsPipeRegister}
+use Rattle.gg_cut_reference.specs.Reference.{Views}
+use Rattle.gg_cut_reference.specs.inside.Reference.{IsReference, IsSeen, IsPiped, IsPipeRegister}
 
 -- ---- the same under the numbers that a machine sees
 

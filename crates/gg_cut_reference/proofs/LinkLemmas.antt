@@ -19,8 +19,8 @@ use Rattle.gg_cut_plan.specs.declared.wires.Wire.{Wire}
 use Rattle.gg_cut_plan.specs.Listed.{first_place}
 use Rattle.gg_cut_plan.proofs.PathLemmas.{IsPlace, place-tells}
 use Rattle.gg_cut_plan.specs.Direct.{Hub, is_own, routes, origin_within}
-use Rattle.gg_cut_plan.specs.Direct.{IsSame}
-use Rattle.gg_cut_reference.specs.Reference.{IsReference}
+use Rattle.gg_cut_plan.specs.inside.Direct.{IsSame}
+use Rattle.gg_cut_reference.specs.inside.Reference.{IsReference}
 use Rattle.gg_cut_plan.specs.Solves.{AreRows, stream}
 use Rattle.gg_cut_reference.specs.Follows.{token_of, token_or}
 use Rattle.gg_cut_reference.specs.Links.{pipes_of, taken_as, seen_by, maker_of, views_of}

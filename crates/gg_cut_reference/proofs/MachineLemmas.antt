@@ -17,7 +17,8 @@ use Rattle.gg_flat.proofs.ListLemmas.{map-same, once-apart, filter-cases, range-
 use Rattle.gg_part.specs.Part.{IsPart}
 use Rattle.gg_part.specs.Building.{AreHeld}
 use Rattle.gg_flat.specs.InOrder.{IsInOrder}
-use Rattle.gg_part.specs.PartRun.{part_row, part_rows, part_columns, part_start}
+use Rattle.gg_part.specs.PartRun.{part_row, part_rows, part_start}
+use Rattle.gg_part.specs.inside.PartRun.{part_columns}
 use Rattle.gg_part.specs.declared.part.Part.{Part}
 use Rattle.gg_part.proofs.RenameLemmas.{part_row-at}
 use Rattle.gg_order.specs.Design.{Ordered}
@@ -26,10 +27,11 @@ use Rattle.gg_cut_plan.specs.declared.wires.Wire.{Wire}
 use Rattle.gg_cut_split.proofs.ClosedLemmas.ListLemmas.{map-cases}
 use Rattle.gg_cut_plan.specs.Plan.{wire_at, channels_to, channels_from, signals_of, givens_of, Takes, MakesBy, IsCutPart}
 use Rattle.gg_cut_plan.specs.Direct.{Hub, hub_of, routes}
-use Rattle.gg_cut_reference.specs.Reference.{IsReference, with_paths}
+use Rattle.gg_cut_reference.specs.inside.Reference.{IsReference, with_paths}
 use Rattle.gg_cut_plan.specs.Solves.{AreRows, stream}
 use Rattle.gg_cut_reference.specs.Follows.{token_of}
-use Rattle.gg_cut_reference.specs.Links.{pipes_of, seen_by, views_of, AreHolders}
+use Rattle.gg_cut_reference.specs.Links.{pipes_of, seen_by, views_of}
+use Rattle.gg_cut_reference.specs.inside.Links.{AreHolders}
 use Rattle.gg_cut_routes.proofs.RouteLemmas.{IsBase, chosen-out}
 use Rattle.gg_cut_routes.proofs.ChoiceLemmas.{any-wire}
 use Rattle.gg_cut_reference.proofs.ReferenceLemmas.{IsOwn, part_of_reference, rows-paths, started-part}

@@ -12,7 +12,8 @@ use Rattle.gg_flat.specs.declared.line.Op.TheVariants.{Ref}
 use Rattle.gg_flat.specs.Line.{value_at, shape_at}
 use Rattle.gg_flat.specs.Circuit.{FlatCircuit, signal_shapes}
 use Rattle.gg_flat.proofs.ListLemmas.{some-item}
-use Rattle.gg_cut_reference.specs.Reference.{Views, IsReference, IsPipeRegister}
+use Rattle.gg_cut_reference.specs.Reference.{Views}
+use Rattle.gg_cut_reference.specs.inside.Reference.{IsReference, IsPipeRegister}
 use Rattle.gg_cut_reference.specs.Made.{seen_signal, pipe_signal, pipe_register, pipe_signals, pipe_registers, reference_of}
 use Rattle.gg_flat.specs.Renaming.{renamed_driver, renamed_memory, renamed_register, signals_by}
 use Rattle.gg_bits.specs.Lists.{by_number}

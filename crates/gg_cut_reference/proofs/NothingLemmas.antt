@@ -15,7 +15,8 @@ use Rattle.gg_partfile.specs.declared.request.Request.{Request}
 use Rattle.gg_cut_plan.specs.Listed.{first_place, is_among, listed_of}
 use Rattle.gg_cut_plan.specs.declared.wires.Wire.{Wire}
 use Rattle.gg_cut_plan.specs.Direct.{Hub, routes, plan_hub}
-use Rattle.gg_flat.specs.Renaming.{signals_by, same_numbers, renamed_driver, renamed_memory, renamed_register}
+use Rattle.gg_flat.specs.Renaming.{signals_by, renamed_driver, renamed_memory, renamed_register}
+use Rattle.gg_flat.specs.inside.Renaming.{same_numbers}
 use Rattle.gg_flat.proofs.RenamedLaws as things
 use Rattle.gg_cut_reference.specs.Reference.{Views}
 use Rattle.gg_cut_reference.specs.Links.{is_carried, pipes_of, taken_as, seen_by, views_of}

@@ -22,7 +22,7 @@ use Rattle.gg_cut_plan.specs.Direct.{Hub, hub_of, routes}
 use Rattle.gg_cut_plan.specs.Plan.{IsInner, wire_at, channels_from, signals_of}
 use Rattle.gg_cut_plan.proofs.OriginLemmas.{any-finds, finds-any, clash}
 use Rattle.gg_cut_plan.proofs.WireLemmas.{givens-same, owner-below, unit_or_hub-below}
-use Rattle.gg_cut_split.specs.closed.Apart.{AreApart}
+use Rattle.gg_cut_split.specs.inside.Apart.{AreApart}
 use Rattle.gg_cut_split.proofs.ClosedLemmas.ListLemmas.{flattened-in, flat_map-is}
 use Rattle.gg_cut_split.proofs.ClosedLemmas.KindLemmas.{IsInto, IsWordWire, Kind, OfSource, OfPort, OfField, OfTray, outside_unit, outside_memory, kind-of, addr-wire, en-wire, data-wire}
 use Rattle.gg_cut_split.proofs.ClosedLemmas.MakerLemmas.{chosen-in, wire-among}

@@ -32,7 +32,7 @@ use Rattle.gg_cut_plan.specs.Fault.{first_fault}
 use Rattle.gg_cut_plan.proofs.ChannelLemmas.{named-channel}
 use Rattle.gg_cut_plan.proofs.OriginLemmas.{Finds, any-finds, finds-any}
 use Rattle.gg_cut_plan.proofs.PathLemmas.{first_place-Some, among-contains}
-use Rattle.gg_cut_split.specs.closed.Apart.{AreApart}
+use Rattle.gg_cut_split.specs.inside.Apart.{AreApart}
 use Rattle.gg_cut_split.proofs.ClosedLemmas.ClosedLemmas.{reader-known}
 use Rattle.gg_cut_split.proofs.ClosedLemmas.FaultlessLemmas.{faultless-apart, faultless-pipes}
 use Rattle.gg_cut_split.proofs.ClosedLemmas.ListLemmas.{Somewhere, map-cases}
@@ -40,7 +40,8 @@ use Rattle.gg_cut_split.proofs.ClosedLemmas.PlaceLemmas.{same-bool}
 use Rattle.gg_cut_routes.proofs.ChoiceLemmas.{any-wire}
 use Rattle.gg_cut_routes.proofs.RouteLemmas.{IsBase, routes-known}
 use Rattle.gg_cut_routes.proofs.RoutedLemmas.{routed-base}
-use Rattle.gg_cut_reference.specs.Made.{holder_of, keeper_of, plan_reference, reference_of, views_in, AllHeld}
+use Rattle.gg_cut_reference.specs.Made.{holder_of, keeper_of, plan_reference, reference_of, AllHeld}
+use Rattle.gg_cut_reference.specs.inside.Made.{views_in}
 use Rattle.gg_cut_reference.specs.Follows.{plan_start}
 use Rattle.gg_cut_reference.specs.Links.{is_carried, pipes_of, taken_as, seen_by, maker_of}
 use Rattle.gg_bits.specs.Lists.{number_or}

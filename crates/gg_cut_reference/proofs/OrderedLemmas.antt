@@ -15,7 +15,8 @@ use Rattle.gg_flat.specs.Order.{IsOrder}
 use Rattle.gg_flat.proofs.OrderLemmas.{stands-before}
 use Rattle.gg_cut_split.proofs.ClosedLemmas.ListLemmas.{AllPairs-append}
 use Rattle.gg_flat.proofs.RenamedLineLaws.{named-back}
-use Rattle.gg_cut_reference.specs.Reference.{Views, IsReference, IsSeen, IsPiped}
+use Rattle.gg_cut_reference.specs.Reference.{Views}
+use Rattle.gg_cut_reference.specs.inside.Reference.{IsReference, IsSeen, IsPiped}
 use Rattle.gg_flat.specs.Renaming.{renamed_driver, signals_by}
 
 -- what a renamed driver names, by its name before

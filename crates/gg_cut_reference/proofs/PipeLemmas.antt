@@ -16,7 +16,7 @@ use Rattle.gg_flat.proofs.AdvanceLemmas.{length-next_registers, next_registers-a
 use Rattle.gg_flat.proofs.ListLemmas.{some-item}
 use Rattle.gg_order.proofs.RunsLemmas.SinceLemmas.{row-dropped, since-add, since-next, since-self}
 use Rattle.gg_cut_plan.specs.Solves.{AreRows}
-use Rattle.gg_cut_reference.specs.Reference.{IsPipeRegister}
+use Rattle.gg_cut_reference.specs.inside.Reference.{IsPipeRegister}
 use Rattle.gg_cut_plan.proofs.SameLemmas.{bare-value}
 
 -- signal g is the register r, which takes signal c

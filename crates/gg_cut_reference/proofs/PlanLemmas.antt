@@ -12,7 +12,8 @@ use Rattle.gg_flat.specs.Run.{IsColumns, Start, inputs_at, column}
 use Rattle.gg_flat.specs.State.{IsState}
 use Rattle.gg_part.specs.KeepsToTree.{KeepsToTree}
 use Rattle.gg_part.specs.Part.{IsPart}
-use Rattle.gg_part.specs.PartRun.{part_rows, part_columns, part_start}
+use Rattle.gg_part.specs.PartRun.{part_rows, part_start}
+use Rattle.gg_part.specs.inside.PartRun.{part_columns}
 use Rattle.gg_part.specs.declared.part.Part.{Part}
 use Rattle.gg_order.specs.Design.{Ordered, IsDesign}
 use Rattle.gg_partfile.specs.declared.request.Request.{Request}
@@ -22,16 +23,19 @@ use Rattle.gg_cut_plan.specs.Fault.{first_fault}
 use Rattle.gg_cut_plan.specs.Plan.{wire_at, Takes, IsCutPart}
 use Rattle.gg_cut_plan.specs.Direct.{Hub, is_driven, is_piped, plan_hub, plan_routes}
 use Rattle.gg_cut_plan.specs.Solves.{AreRows, stream}
-use Rattle.gg_cut_split.specs.closed.Apart.{AreApart}
+use Rattle.gg_cut_split.specs.inside.Apart.{AreApart}
 use Rattle.gg_cut_split.proofs.ClosedLemmas.FaultlessLemmas.{faultless-apart}
 use Rattle.gg_cut_routes.proofs.ChoiceLemmas.{any-wire}
 use Rattle.gg_cut_routes.proofs.RouteLemmas.{IsBase}
 use Rattle.gg_cut_routes.proofs.RoutedLemmas.{routed-base}
-use Rattle.gg_cut_reference.specs.Reference.{IsReference, IsSeen, with_paths}
-use Rattle.gg_cut_reference.specs.Links.{pipes_of, taken_as, maker_of, AreHolders}
-use Rattle.gg_cut_reference.specs.Made.{holder_of, keeper_of, plan_reference, plan_seen, views_in, IsFresh}
+use Rattle.gg_cut_reference.specs.inside.Reference.{IsReference, IsSeen, with_paths}
+use Rattle.gg_cut_reference.specs.Links.{pipes_of, taken_as, maker_of}
+use Rattle.gg_cut_reference.specs.inside.Links.{AreHolders}
+use Rattle.gg_cut_reference.specs.Made.{holder_of, keeper_of, plan_reference, plan_seen, IsFresh}
+use Rattle.gg_cut_reference.specs.inside.Made.{views_in}
 use Rattle.gg_cut_plan.specs.Held.{AreHeldOnce}
-use Rattle.gg_cut_reference.specs.Follows.{Follows, plan_token}
+use Rattle.gg_cut_reference.specs.inside.Follows.{Follows}
+use Rattle.gg_cut_reference.specs.Follows.{plan_token}
 use Rattle.gg_cut_reference.proofs.HolderLemmas.{holder-is, keeper-is}
 use Rattle.gg_cut_reference.proofs.LinkLemmas.{given-column, seen-column}
 use Rattle.gg_cut_reference.proofs.MachineLemmas.{map-agree, IsRoutedPart, cut-part, part-is, own-run}

@@ -15,11 +15,13 @@ use Rattle.gg_flat.specs.Run.{Start, IsRunFrom, state_at, row_at, inputs_at, lat
 use Rattle.gg_flat.specs.Settled.{Settled}
 use Rattle.gg_flat.proofs.ListLemmas.{some-item}
 use Rattle.gg_cut_split.proofs.ClosedLemmas.ListLemmas.{AllPairs-map}
-use Rattle.gg_part.specs.PartRun.{part_row, part_rows, part_columns, part_start}
+use Rattle.gg_part.specs.PartRun.{part_row, part_rows, part_start}
+use Rattle.gg_part.specs.inside.PartRun.{part_columns}
 use Rattle.gg_part.proofs.RunLemmas.{column-at, IsRunFrom-part}
 use Rattle.gg_part.specs.Part.{IsPart, IsFrom, IsRegisterFrom, IsMemoryFrom, MemoryBelow}
 use Rattle.gg_cut_plan.specs.Solves.{AreRows}
-use Rattle.gg_cut_reference.specs.Reference.{Views, IsReference, IsSeen, IsPiped, with_paths}
+use Rattle.gg_cut_reference.specs.Reference.{Views}
+use Rattle.gg_cut_reference.specs.inside.Reference.{IsReference, IsSeen, IsPiped, with_paths}
 use Rattle.gg_cut_reference.proofs.RenameLemmas.{value-by, line-by, register-by, memory-by}
 use Rattle.gg_flat.specs.Renaming.{renamed_driver, renamed_memory, renamed_register, signals_by}
 

@@ -12,7 +12,7 @@ use Rattle.gg_cut_plan.proofs.PathLemmas.{first_place-Some}
 use Rattle.gg_cut_split.proofs.ClosedLemmas.PlaceLemmas.{place-none}
 use Rattle.gg_cut_plan.specs.Plan.{Takes, MakesBy}
 use Rattle.gg_cut_plan.specs.Direct.{Hub, is_own, routes, origin_within}
-use Rattle.gg_cut_reference.specs.Reference.{IsSeen, IsPiped}
+use Rattle.gg_cut_reference.specs.inside.Reference.{IsSeen, IsPiped}
 use Rattle.gg_cut_reference.specs.Links.{is_carried, pipes_of, taken_as, seen_by, maker_or, maker_of}
 use Rattle.gg_bits.specs.Lists.{number_or}
 use Rattle.gg_cut_plan.proofs.OriginLemmas.{any-finds, finds-any, clash, Chain, Here, Copy, chain}

@@ -14,7 +14,7 @@ use Rattle.gg_cut_plan.specs.Listed.{owner_of_instance, memory_owner}
 use Rattle.gg_cut_plan.specs.Machines.{first_memory}
 use Rattle.gg_cut_plan.specs.Channels.{wire, wires_of}
 use Rattle.gg_cut_plan.proofs.WireLemmas.{unit_or_hub-below}
-use Rattle.gg_cut_split.specs.closed.Apart.{AreApart}
+use Rattle.gg_cut_split.specs.inside.Apart.{AreApart}
 use Rattle.gg_cut_split.proofs.ClosedLemmas.TreeLemmas.{innermost-one}
 use Rattle.gg_cut_split.proofs.ClosedLemmas.PlaceLemmas.{owner-unit, owner-top, owner-outside}
 use Rattle.gg_cut_split.proofs.ClosedLemmas.KindLemmas.{IsSourceWire, IsTrayWire, IsPortWire, IsFieldWire, IsInto, IsWordWire, Kind, OfSource, OfPort, OfField, OfTray, outside_unit, outside_memory, kind-of, data-wire, word-field}

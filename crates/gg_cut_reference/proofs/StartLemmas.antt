@@ -24,7 +24,8 @@ use Rattle.gg_flat.specs.Renaming.{signals_by, renamed_memory}
 use Rattle.gg_flat.proofs.RenamedLaws.{opening-renamed}
 use Rattle.gg_cut_reference.specs.Reference.{Views}
 use Rattle.gg_cut_reference.specs.Links.{pipes_of}
-use Rattle.gg_cut_reference.specs.Made.{plan_reference, reference_of, views_in}
+use Rattle.gg_cut_reference.specs.Made.{plan_reference, reference_of}
+use Rattle.gg_cut_reference.specs.inside.Made.{views_in}
 use Rattle.gg_bits.specs.Lists.{by_number}
 use Rattle.gg_cut_reference.specs.Follows.{plan_start, plan_token, token_of, token_or}
 

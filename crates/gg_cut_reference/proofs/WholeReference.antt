@@ -13,12 +13,12 @@ use Rattle.gg_flat.proofs.ListLemmas.{once-apart}
 use Rattle.gg_cut_plan.specs.declared.listed.Listed.{Listed}
 use Rattle.gg_cut_plan.specs.Listed.{memory_owner}
 use Rattle.gg_cut_plan.specs.Plan.{HasMemory}
-use Rattle.gg_cut_split.specs.closed.Apart.{AreApart}
+use Rattle.gg_cut_split.specs.inside.Apart.{AreApart}
 use Rattle.gg_cut_split.proofs.ClosedLemmas.ListLemmas.{map-cases, AllPairs-append, AllPairs-map}
 use Rattle.gg_cut_split.proofs.ClosedLemmas.ClosedLemmas.{reader-known}
 use Rattle.gg_cut_split.proofs.ClosedLemmas.ChoiceLemmas.{place-of-memory}
 use Rattle.gg_cut_plan.specs.Direct.{Hub, hub_of}
-use Rattle.gg_cut_reference.specs.Reference.{IsReference, IsPiped}
+use Rattle.gg_cut_reference.specs.inside.Reference.{IsReference, IsPiped}
 use Rattle.gg_cut_reference.specs.Links.{pipes_of, taken_as, views_of}
 use Rattle.gg_cut_reference.specs.Made.{reference, IsFresh}
 use Rattle.gg_cut_routes.proofs.RouteLemmas.{IsBase}

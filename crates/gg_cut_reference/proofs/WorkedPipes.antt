@@ -9,7 +9,8 @@ use Rattle.gg_flat.specs.declared.piece.Driver.TheVariants.{Input, Computed}
 use Rattle.gg_flat.specs.Line.{value_at}
 use Rattle.gg_flat.specs.Circuit.{FlatCircuit, driver_at}
 use Rattle.gg_flat.specs.Run.{Start, column}
-use Rattle.gg_flat.specs.Along.{rows_along, rows_from}
+use Rattle.gg_flat.specs.inside.Along.{rows_along}
+use Rattle.gg_flat.specs.Along.{rows_from}
 use Rattle.gg_flat.proofs.WorkedCircuits.{eight, node}
 use Rattle.gg_flat.proofs.WorkedMemories.{signal, copy}
 use Rattle.gg_order.specs.Design.{Ordered}

@@ -8,7 +8,7 @@ use Rattle.gg_flat.specs.declared.piece.Driver.TheVariants.{Input, Held, MemoryW
 use Rattle.gg_flat.specs.Line.{value_at}
 use Rattle.gg_flat.specs.Circuit.{FlatCircuit, driver_at, readers_at}
 use Rattle.gg_flat.specs.Run.{column}
-use Rattle.gg_flat.specs.Along.{rows_along}
+use Rattle.gg_flat.specs.inside.Along.{rows_along}
 use Rattle.gg_flat.proofs.WorkedCircuits.{one, eight, node}
 use Rattle.gg_flat.proofs.WorkedMemories.{signal, copy, high}
 use Rattle.gg_cut_plan.specs.declared.wires.Wire.{Wire}

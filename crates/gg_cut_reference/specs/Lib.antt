@@ -2,8 +2,7 @@ pub mod Reference
 pub mod Links
 pub mod Made
 pub mod Follows
-pub mod ReferenceRuns
-pub mod ReferenceForm
 pub mod fitting
 pub mod whole
 pub mod text
+pub mod inside

@@ -1,11 +1,9 @@
 -- The two ends of a channel in the reference circuit: the signal by which its producer gives the value, and the signal by which
 -- its consumer gets it. They differ where the channel is direct or piped.
 -- Source: MEMOCODE 2009 (channels between the nodes of a dataflow network; tokens that are there at the start).
-use Rattle.std.specs.Prelude.{◌≡◌, ℕ, ◌<◌, List, Bool, ◌==◌, ◌&&◌, if◌then◌else◌, Option, Some, None, length, filter, find, Contains}
+use Rattle.std.specs.Prelude.{ℕ, List, Bool, ◌==◌, ◌&&◌, if◌then◌else◌, Option, Some, None, length, filter, find}
 use Rattle.std.specs.List.{list_any, range_with_len}
 use Rattle.gg_bits.specs.Lists.{number_or}
-use Rattle.gg_flat.specs.Circuit.{driver_at}
-use Rattle.gg_flat.specs.declared.piece.Driver.TheVariants.{Held}
 use Rattle.gg_cut_plan.specs.declared.wires.Wire.{Wire}
 use Rattle.gg_cut_plan.specs.Listed.{first_place}
 use Rattle.gg_cut_plan.specs.Direct.{Hub, routes}
@@ -39,8 +37,3 @@ maker_of hub s = maker_or (hub.owner s) (find (λ w. w.signal == s) hub.base)
 -- who names what, where `holder` has the machine that holds a register and `keeper` the machine of a memory
 abbrev pub views_of : Hub → (ℕ → ℕ) → (ℕ → ℕ) → Views
 views_of hub holder keeper = record { maker = maker_of hub; holder = holder; keeper = keeper; seen = seen_by hub; kept = taken_as hub }
-
--- each register is held by signals of one machine, and each memory of the part is the machine's
-pub record AreHolders (hub : Hub) (holder keeper : ℕ → ℕ) (m : ℕ) (memories : List ℕ) : Type 0 where
-  pub registers : (s r : ℕ) → s < length hub.circuit.signals → driver_at hub.circuit s ≡ Held r → holder r ≡ maker_of hub s
-  pub kept : (k : ℕ) → Contains memories k → keeper k ≡ m

@@ -90,11 +90,6 @@ holder_of hub r = unwrap_or (option_map (maker_of hub) (first_place (λ s. holds
 abbrev pub keeper_of : InstanceTree → Listed → ℕ → ℕ
 keeper_of tree listed m = memory_owner tree listed (unwrap_or (first_place (λ memory. memory.memory == m) tree.memories) 0)
 
--- who names what in a cut: of a circuit with its tree, what is listed, the signals whose channels are piped, the inputs that a
--- bridge drives, and whether channels are to be direct
-abbrev pub views_in : FlatCircuit → InstanceTree → Listed → (piped driven : ℕ → Bool) → Bool → Views
-views_in circuit tree listed piped driven direct = let hub = hub_of circuit tree listed piped driven direct in views_of hub (holder_of hub) (keeper_of tree listed)
-
 -- the reference circuit of the cut, whose views are those of its hub
 abbrev pub reference_circuit : FlatCircuit → InstanceTree → Listed → (piped driven : ℕ → Bool) → Bool → FlatCircuit
 reference_circuit circuit tree listed piped driven direct = reference (hub_of circuit tree listed piped driven direct) (holder_of (hub_of circuit tree listed piped driven direct)) (keeper_of tree listed)

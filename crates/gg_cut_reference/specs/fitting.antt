@@ -1,5 +1,1 @@
 pub mod Fitting
-pub mod Fitted
-pub mod Left
-pub mod Listers
-pub mod Unmoved

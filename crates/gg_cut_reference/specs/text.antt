@@ -1,4 +1,1 @@
-pub mod Alike
 pub mod CheckText
-pub mod PlanText
-pub mod NeedsTold

@@ -5,8 +5,8 @@ ghost use Rattle.gg_partfile.specs.declared.request.Request.{Request};
 ghost use Rattle.gg_cut_plan.specs.Direct.{plan_hub};
 ghost use Rattle.gg_cut_reference.specs.Links.{taken_as};
 ghost use Rattle.gg_cut_reference.specs.Made.{plan_reference};
-ghost use Rattle.gg_cut_reference.specs.ReferenceRuns.{MachinesFollow, ChannelsFollow, SourcesFollow};
-ghost use Rattle.gg_cut_reference.specs.ReferenceForm.{ReferencesArePiped, ReferencesAreFormed, ReferencesAreOrdered, NothingIsPiped, PipesDecideReference, PipesDecideStart};
+ghost use Rattle.gg_cut_reference.specs.inside.ReferenceRuns.{MachinesFollow, ChannelsFollow, SourcesFollow};
+ghost use Rattle.gg_cut_reference.specs.inside.ReferenceForm.{ReferencesArePiped, ReferencesAreFormed, ReferencesAreOrdered, NothingIsPiped, PipesDecideReference, PipesDecideStart};
 
 use gg_cut_split::channels_once;
 

@@ -24,7 +24,7 @@ use Rattle.gg_cut_plan.specs.Direct.{Hub, hub_of, is_input, is_taken, is_gone, i
 use Rattle.gg_cut_plan.proofs.ChainLemmas.{marked-more}
 use Rattle.gg_cut_plan.proofs.OriginLemmas.{any-finds}
 use Rattle.gg_cut_plan.proofs.PathLemmas.{HoldsPath, holds-path}
-use Rattle.gg_cut_split.specs.closed.Apart.{AreApart}
+use Rattle.gg_cut_split.specs.inside.Apart.{AreApart}
 use Rattle.gg_cut_routes.proofs.AgreeLemmas.{gone-same, routes-agree}
 use Rattle.gg_cut_routes.proofs.PlanLemmas.{plan-base}
 

@@ -7,11 +7,12 @@ use Rattle.gg_flat.specs.Circuit.{FlatCircuit}
 use Rattle.gg_flat_tree.specs.Tree.{InstanceTree, memory_at}
 use Rattle.gg_flat_tree.specs.Scoped.{memory_fields}
 use Rattle.gg_flat.proofs.ListLemmas.{Contains-filter, in-range}
-use Rattle.gg_part.specs.Choice.{IsChoice}
+use Rattle.gg_part.specs.inside.Choice.{IsChoice}
 use Rattle.gg_cut_plan.specs.declared.listed.Listed.{Listed}
 use Rattle.gg_cut_plan.specs.Channels.{wires_of}
 use Rattle.gg_cut_plan.specs.Listed.{memory_owner}
-use Rattle.gg_cut_plan.specs.Plan.{channels_to, channels_from, signals_of, givens_of, Makes, Takes, HasMemory, MakesBy}
+use Rattle.gg_cut_plan.specs.Plan.{channels_to, channels_from, signals_of, givens_of, Takes, HasMemory, MakesBy}
+use Rattle.gg_cut_plan.specs.inside.Plan.{Makes}
 use Rattle.gg_cut_plan.specs.Direct.{Hub, routes, hub_of, hub_fields}
 use Rattle.gg_cut_routes.proofs.NameLemmas.{flat-in}
 use Rattle.gg_cut_routes.proofs.RouteLemmas.{IsBase}

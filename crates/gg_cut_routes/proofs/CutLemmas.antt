@@ -7,18 +7,20 @@ use Rattle.gg_flat_tree.specs.Tree.{InstanceTree, IsTree}
 use Rattle.gg_flat_tree.specs.Scoped.{IsScoped}
 use Rattle.gg_flat.specs.WellFormed.{IsWellFormed}
 use Rattle.gg_order.specs.Design.{Ordered, IsDesign}
-use Rattle.gg_part.specs.Choice.{IsChoice}
+use Rattle.gg_part.specs.inside.Choice.{IsChoice}
 use Rattle.gg_cut_plan.specs.declared.wires.Wire.{Wire}
 use Rattle.gg_cut_plan.specs.declared.listed.Listed.{Listed}
-use Rattle.gg_cut_plan.specs.Machines.{first_source, machine_count}
+use Rattle.gg_cut_plan.specs.Machines.{first_source}
+use Rattle.gg_cut_plan.specs.inside.Machines.{machine_count}
 use Rattle.gg_cut_plan.specs.Channels.{wires_of}
-use Rattle.gg_cut_plan.specs.Plan.{channels_to, channels_from, signals_of, givens_of, Makes, Takes, HasMemory}
+use Rattle.gg_cut_plan.specs.Plan.{channels_to, channels_from, signals_of, givens_of, Takes, HasMemory}
+use Rattle.gg_cut_plan.specs.inside.Plan.{Makes}
 use Rattle.gg_part.specs.KeepsToTree.{KeepsToTree}
 use Rattle.gg_cut_plan.proofs.WireLemmas.{all-plain}
-use Rattle.gg_cut_split.specs.closed.Apart.{AreApart, AreEnds}
+use Rattle.gg_cut_split.specs.inside.Apart.{AreApart, AreEnds}
 use Rattle.gg_cut_split.proofs.ClosedLemmas.ChoiceLemmas.{wire-known}
 use Rattle.gg_cut_plan.specs.Direct.{Hub, hub_of, route, routes}
-use Rattle.gg_cut_routes.specs.Routes.{AreRoutes}
+use Rattle.gg_cut_routes.specs.inside.Routes.{AreRoutes}
 use Rattle.gg_cut_routes.proofs.RouteLemmas.{IsBase, out-routes, routes-once, routes-known, no-echo, Routing, Plain, Direct, routing, route-consumer, plain-producer, direct-producer}
 use Rattle.gg_cut_routes.proofs.CutChoice.{choice}
 use Rattle.gg_cut_routes.proofs.SideLemmas.{source-routes, tray-routes}

@@ -12,14 +12,15 @@ use Rattle.gg_flat.proofs.ListLemmas.{filter-cases, range-below}
 use Rattle.gg_order.specs.Marks.{is_marked}
 use Rattle.gg_cut_plan.specs.declared.listed.Listed.{Listed}
 use Rattle.gg_cut_plan.specs.declared.wires.Wire.{Wire}
-use Rattle.gg_cut_plan.specs.Listed.{AreMarks, memory_owner}
+use Rattle.gg_cut_plan.specs.inside.Listed.{AreMarks}
+use Rattle.gg_cut_plan.specs.Listed.{memory_owner}
 use Rattle.gg_cut_plan.specs.Channels.{wires_of}
 use Rattle.gg_cut_plan.specs.Plan.{channels_to, channels_from, signals_of, givens_of, HasMemory}
 use Rattle.gg_cut_routes.specs.declared.sides.Side.{Side}
 use Rattle.gg_cut_routes.specs.declared.sides.Side.TheVariants.{Other, Own, Out, In}
 use Rattle.gg_cut_plan.specs.Direct.{Hub, hub_of, hub_fields, made, named_by, copied, driver_names, routes, is_gone}
-use Rattle.gg_cut_routes.specs.Tables.{side_at, entry_at, AreSides, is_in, is_makers, IsSeen, AreOrigins, direct_by, AreEntries, AreGone, routed_by}
-use Rattle.gg_cut_routes.specs.Routable.{CanRoute, IsRouting}
+use Rattle.gg_cut_routes.specs.inside.Tables.{side_at, entry_at, AreSides, is_in, is_makers, IsSeen, AreOrigins, direct_by, AreEntries, AreGone, routed_by}
+use Rattle.gg_cut_routes.specs.inside.Routable.{CanRoute, IsRouting}
 use Rattle.gg_cut_routes.proofs.NameLemmas.{flat-in}
 use Rattle.gg_cut_routes.proofs.NamedLemmas.{names-chosen}
 use Rattle.gg_cut_plan.proofs.OriginLemmas.{copied-is, clash, finds-any}

@@ -10,10 +10,11 @@ use Rattle.gg_part.proofs.FrameLemmas.{length-once}
 use Rattle.gg_partfile.specs.declared.request.Request.{Request}
 use Rattle.gg_cut_plan.specs.declared.wires.Wire.{Wire}
 use Rattle.gg_cut_plan.specs.Listed.{listed_of}
-use Rattle.gg_cut_plan.specs.Machines.{first_source, first_tray, machine_count}
+use Rattle.gg_cut_plan.specs.Machines.{first_source, first_tray}
+use Rattle.gg_cut_plan.specs.inside.Machines.{machine_count}
 use Rattle.gg_cut_plan.specs.Direct.{plan_hub, plan_routes}
-use Rattle.gg_cut_split.specs.closed.Apart.{AreFew}
-use Rattle.gg_cut_routes.specs.Routes.{AreRoutes}
+use Rattle.gg_cut_split.specs.inside.Apart.{AreFew}
+use Rattle.gg_cut_routes.specs.inside.Routes.{AreRoutes}
 use Rattle.gg_cut_routes.proofs.RouteLemmas.{chosen-out}
 use Rattle.gg_cut_routes.proofs.ChoiceLemmas.{any-wire}
 

@@ -6,7 +6,7 @@ use Rattle.std.proofs.lemmas.List.Elements.{Contains-get_or, Contains-append_cas
 use Rattle.gg_flat.specs.Circuit.{FlatCircuit, driver_at}
 use Rattle.gg_flat_tree.specs.Scoped.{memory_fields}
 use Rattle.gg_cut_plan.specs.Direct.{driver_names}
-use Rattle.gg_cut_routes.specs.Tables.{entry_at, AreKnown}
+use Rattle.gg_cut_routes.specs.inside.Tables.{entry_at, AreKnown}
 use Rattle.gg_cut_routes.proofs.ListTables.{flat-out, some-is}
 
 pub found-known : (table : List (Option ℕ)) (signals : List ℕ) (count : ℕ) → AreKnown count table → All (λ x. x < count) (flat_map (λ s. option_to_list (entry_at table s)) signals)

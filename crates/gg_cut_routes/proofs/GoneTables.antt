@@ -16,7 +16,7 @@ use Rattle.gg_cut_plan.specs.declared.wires.Wire.{Wire}
 use Rattle.gg_cut_routes.specs.declared.sides.Side.{Side}
 use Rattle.gg_cut_routes.specs.declared.sides.Side.TheVariants.{Other, Own, Out, In}
 use Rattle.gg_cut_plan.specs.Direct.{Hub, is_taken, is_own, is_given, made, named_by, kept, origin, copied, giver, if_plain, may_be_direct, direct_of, is_direct, is_number, left_by, is_gone, driver_names, route, route_by, routes}
-use Rattle.gg_cut_routes.specs.Tables.{side_at, entry_at, origin_beyond, given_by, if_given, direct_by, AreEntries, is_in, is_inner, is_kept, is_left, AreGone, from_by, routed_by}
+use Rattle.gg_cut_routes.specs.inside.Tables.{side_at, entry_at, origin_beyond, given_by, if_given, direct_by, AreEntries, is_in, is_inner, is_kept, is_left, AreGone, from_by, routed_by}
 use Rattle.gg_cut_routes.proofs.NameLemmas.{flat-in}
 use Rattle.gg_cut_plan.proofs.OriginLemmas.{any-finds, finds-any, clash, some-clash, chain-end}
 use Rattle.gg_cut_plan.proofs.DirectLemmas.{direct-is}

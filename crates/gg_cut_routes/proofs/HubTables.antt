@@ -9,7 +9,7 @@ use Rattle.gg_cut_plan.specs.declared.wires.Wire.{Wire}
 use Rattle.gg_cut_routes.specs.declared.sides.Side.{Side}
 use Rattle.gg_cut_routes.specs.declared.sides.Side.TheVariants.{Other, Own, Out, In}
 use Rattle.gg_cut_plan.specs.Direct.{Hub, is_taken, is_given, is_own, made, giver}
-use Rattle.gg_cut_routes.specs.Tables.{side_at, ends_at_hub, IsCarried, IsSide, AreSides, is_in, is_inner, is_makers}
+use Rattle.gg_cut_routes.specs.inside.Tables.{side_at, ends_at_hub, IsCarried, IsSide, AreSides, is_in, is_inner, is_makers}
 use Rattle.gg_cut_plan.proofs.OriginLemmas.{any-finds, finds-any, clash}
 use Rattle.gg_cut_routes.proofs.RouteLemmas.{IsBase, same-wire, apart-at, giver-is, into, own-no-wire}
 use Rattle.gg_cut_routes.proofs.ChoiceLemmas.{Made, Taken, made-wire, wire-made, wire-taken, inner-none, item-inner}

@@ -12,7 +12,7 @@ use Rattle.gg_part.proofs.FrameLemmas.{length-once}
 use Rattle.gg_cut_routes.specs.declared.sides.Side.{Side}
 use Rattle.gg_cut_routes.specs.declared.sides.Side.TheVariants.{Other, Own, Out, In}
 use Rattle.gg_cut_plan.specs.Direct.{Hub, is_own, origin, copied}
-use Rattle.gg_cut_routes.specs.Tables.{side_at, entry_at, AreKnown, origin_beyond, origin_by, is_in, is_inner, IsSeen, AreOrigins}
+use Rattle.gg_cut_routes.specs.inside.Tables.{side_at, entry_at, AreKnown, origin_beyond, origin_by, is_in, is_inner, IsSeen, AreOrigins}
 use Rattle.gg_cut_plan.proofs.OriginLemmas.{some-clash, same-value}
 use Rattle.gg_cut_routes.proofs.WholeLemmas.{origin-step, copy-reads}
 

@@ -9,21 +9,21 @@ use Rattle.gg_flat.proofs.ListLemmas.{IsKept, Contains-map, Contains-filter, fil
 use Rattle.gg_part.specs.KeepsToTree.{KeepsToTree}
 use Rattle.gg_order.specs.Design.{Ordered, IsDesign}
 use Rattle.gg_order.specs.Marks.{is_marked}
-use Rattle.gg_flat.specs.InOrder.{Precedes, IsAlong}
+use Rattle.gg_flat.specs.inside.InOrder.{Precedes, IsAlong}
 use Rattle.gg_cut_plan.specs.declared.listed.Listed.{Listed}
 use Rattle.gg_cut_plan.specs.declared.wires.Wire.{Wire}
 use Rattle.gg_cut_plan.specs.Channels.{wires_of}
 use Rattle.gg_cut_plan.specs.Direct.{Hub, hub_of, is_direct, is_gone, direct_of, route, routes}
 use Rattle.gg_cut_plan.specs.Plan.{channels_to, channels_from, MakesBy, Takes, HasMemory}
 use Rattle.gg_cut_plan.proofs.OriginLemmas.{any-finds, finds-any, clash}
-use Rattle.gg_cut_split.specs.closed.Apart.{AreApart}
+use Rattle.gg_cut_split.specs.inside.Apart.{AreApart}
 use Rattle.gg_cut_split.proofs.ClosedLemmas.ChoiceLemmas.{pairs-once}
 use Rattle.gg_cut_split.proofs.ClosedLemmas.EndLemmas.{ends}
 use Rattle.gg_cut_split.proofs.ClosedLemmas.ListLemmas.{map-cases}
-use Rattle.gg_cut_split.specs.Share.{IsShareOf}
+use Rattle.gg_cut_split.specs.inside.Share.{IsShareOf}
 use Rattle.gg_cut_split.proofs.ShareLemmas.{along-once}
-use Rattle.gg_cut_routes.specs.Routes.{AreRoutes}
-use Rattle.gg_cut_routes.specs.Share.{IsPlanShare, is_past_hub, past_hub, stays_by}
+use Rattle.gg_cut_routes.specs.inside.Routes.{AreRoutes}
+use Rattle.gg_cut_routes.specs.inside.Share.{IsPlanShare, is_past_hub, past_hub, stays_by}
 use Rattle.gg_cut_routes.proofs.CutLemmas.{base-of}
 use Rattle.gg_cut_routes.proofs.GoneLemmas.{Stays}
 use Rattle.gg_cut_routes.proofs.RouteLemmas.{IsBase, IsRoute, Routing, Plain, Direct, routing, same-wire, apart-at, in-routes, out-routes, route-signal, route-consumer, plain-producer, direct-producer}

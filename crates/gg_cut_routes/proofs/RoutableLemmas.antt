@@ -5,17 +5,17 @@ use Rattle.gg_flat.specs.Circuit.{FlatCircuit}
 use Rattle.gg_flat_tree.specs.Tree.{InstanceTree}
 use Rattle.gg_order.specs.Design.{Ordered, IsDesign}
 use Rattle.gg_part.specs.KeepsToTree.{KeepsToTree}
-use Rattle.gg_part.specs.Choice.{IsChoice}
+use Rattle.gg_part.specs.inside.Choice.{IsChoice}
 use Rattle.gg_cut_plan.specs.declared.listed.Listed.{Listed}
 use Rattle.gg_cut_plan.specs.declared.wires.Wire.{Wire}
-use Rattle.gg_cut_plan.specs.Machines.{machine_count}
+use Rattle.gg_cut_plan.specs.inside.Machines.{machine_count}
 use Rattle.gg_cut_plan.specs.Channels.{wires_of}
 use Rattle.gg_cut_plan.specs.Plan.{channels_from, signals_of, givens_of}
-use Rattle.gg_cut_split.specs.closed.Apart.{AreApart, AreEnds}
+use Rattle.gg_cut_split.specs.inside.Apart.{AreApart, AreEnds}
 use Rattle.gg_cut_split.specs.declared.share.Share.{Share}
-use Rattle.gg_cut_split.specs.IsShare.{AreShares, IsShare}
+use Rattle.gg_cut_split.specs.inside.IsShare.{AreShares, IsShare}
 use Rattle.gg_cut_plan.specs.Direct.{hub_of}
-use Rattle.gg_cut_routes.specs.Routable.{CanRoute, IsRouting}
+use Rattle.gg_cut_routes.specs.inside.Routable.{CanRoute, IsRouting}
 
 module _ (design : Ordered) (listed : Listed) (is : IsDesign design) (keeps : KeepsToTree design.circuit design.tree) (apart : AreApart design.tree listed) (once : AllPairs (λ (v w : Wire). v.signal ≢ w.signal) (wires_of design.circuit design.tree listed)) (ends : All (AreEnds (machine_count design.circuit listed)) (wires_of design.circuit design.tree listed)) where
   -- the hub has a share

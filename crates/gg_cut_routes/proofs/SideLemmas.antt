@@ -13,7 +13,7 @@ use Rattle.gg_cut_plan.specs.Channels.{wire}
 use Rattle.gg_cut_plan.proofs.WireLemmas.{unit_or_hub-below, owner-below}
 use Rattle.gg_cut_split.proofs.ClosedLemmas.KindLemmas.{IsSourceWire, IsTrayWire, IsInto, IsWordWire, Kind, OfSource, OfPort, OfField, OfTray, outside_unit, outside_memory, kind-of, source-wire, tray-wire}
 use Rattle.gg_cut_plan.specs.Direct.{Hub, hub_of, routes}
-use Rattle.gg_cut_routes.specs.Routes.{GivesInput, TakesOutput}
+use Rattle.gg_cut_routes.specs.inside.Routes.{GivesInput, TakesOutput}
 use Rattle.gg_cut_routes.proofs.RouteLemmas.{IsBase, port-stays}
 use Rattle.gg_cut_routes.proofs.ChoiceLemmas.{From, Same, Origin, gives-out, gives-all, takes-out, takes-in}
 

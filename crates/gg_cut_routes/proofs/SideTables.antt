@@ -12,7 +12,7 @@ use Rattle.gg_cut_plan.specs.Channels.{wire}
 use Rattle.gg_cut_plan.specs.Plan.{wire_at}
 use Rattle.gg_cut_routes.specs.declared.sides.Side.{Side}
 use Rattle.gg_cut_routes.specs.declared.sides.Side.TheVariants.{Other, Own, Out, In}
-use Rattle.gg_cut_routes.specs.Tables.{side_at, side_by, ends_at_hub, IsCarried, IsSide, AreSides}
+use Rattle.gg_cut_routes.specs.inside.Tables.{side_at, side_by, ends_at_hub, IsCarried, IsSide, AreSides}
 
 -- ---- the hub's own signals
 

@@ -16,7 +16,7 @@ use Rattle.gg_cut_plan.specs.Plan.{wire_at}
 use Rattle.gg_cut_routes.specs.declared.sides.Side.{Side}
 use Rattle.gg_cut_routes.specs.declared.sides.Side.TheVariants.{Other, Own, Out, In}
 use Rattle.gg_cut_plan.specs.Direct.{copied}
-use Rattle.gg_cut_routes.specs.Tables.{side_at, entry_at, AreKnown, origin_beyond, given_by, if_given, direct_by, AreEntries}
+use Rattle.gg_cut_routes.specs.inside.Tables.{side_at, entry_at, AreKnown, origin_beyond, given_by, if_given, direct_by, AreEntries}
 use Rattle.gg_cut_plan.proofs.OriginLemmas.{any-finds, finds-any, clash, some-clash, same-value}
 
 -- what a direct channel is given by is a signal

@@ -4,7 +4,7 @@ use Rattle.std.specs.Prelude.{Contains, AllPairs}
 use Rattle.std.proofs.lemmas.List.Elements.{All-contains, Contains-get_or}
 use Rattle.gg_flat.specs.Circuit.{FlatCircuit, driver_at, readers_at, reader_at}
 use Rattle.gg_flat_tree.specs.Scoped.{memory_fields}
-use Rattle.gg_part.specs.Choice.{IsChoice}
+use Rattle.gg_part.specs.inside.Choice.{IsChoice}
 use Rattle.gg_cut_plan.specs.Direct.{driver_names}
 use Rattle.gg_cut_routes.proofs.NameLemmas.{driver-named, held-named}
 

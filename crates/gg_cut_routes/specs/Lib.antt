@@ -1,5 +1,1 @@
-pub mod Routes
-pub mod Share
-pub mod Tables
-pub mod Routable
-pub mod RoutedCuts
+pub mod inside

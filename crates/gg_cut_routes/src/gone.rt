@@ -5,7 +5,7 @@ ghost use Rattle.gg_flat.specs.Circuit.{driver_at};
 ghost use Rattle.gg_flat_tree.specs.Scoped.{memory_fields};
 ghost use Rattle.gg_flat.specs.WellFormed.{IsWellFormed};
 ghost use Rattle.gg_cut_plan.specs.Direct.{driver_names};
-ghost use Rattle.gg_cut_routes.specs.Tables.{side_at, entry_at, AreKnown, is_kept, is_left, AreGone};
+ghost use Rattle.gg_cut_routes.specs.inside.Tables.{side_at, entry_at, AreKnown, is_kept, is_left, AreGone};
 
 use crate::lists::{push_if, push_some};
 use crate::names::names_of;

@@ -7,7 +7,7 @@ ghost use Rattle.gg_partfile.specs.declared.request.Request.{Request};
 ghost use Rattle.gg_cut_plan.specs.Listed.{listed_of};
 ghost use Rattle.gg_cut_plan.specs.Channels.{wires_of};
 ghost use Rattle.gg_cut_plan.specs.Direct.{hub_of, routes, is_gone, plan_routes};
-ghost use Rattle.gg_cut_routes.specs.RoutedCuts.{ChannelsAreRouted, PlansAreRouted, MachinesAreFew, HubIsRouted, OthersAreRouted, OthersTakeTheSame, OthersGiveTheSame};
+ghost use Rattle.gg_cut_routes.specs.inside.RoutedCuts.{ChannelsAreRouted, PlansAreRouted, MachinesAreFew, HubIsRouted, OthersAreRouted, OthersTakeTheSame, OthersGiveTheSame};
 
 use gg_cut_split::{channels_once, machine_makes_part};
 

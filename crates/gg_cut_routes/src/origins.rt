@@ -4,7 +4,7 @@ ghost use Rattle.gg_flat.specs.Order.{IsOrder};
 ghost use Rattle.gg_flat.specs.WellFormed.{IsWellFormed};
 ghost use Rattle.gg_order.specs.Marks.{is_marked};
 ghost use Rattle.gg_cut_plan.specs.Direct.{Hub, bare_op, bare_line, bare_of, if_wide, copied};
-ghost use Rattle.gg_cut_routes.specs.Tables.{side_at, entry_at, AreKnown, origin_beyond, origin_by, IsSeen, AreOrigins};
+ghost use Rattle.gg_cut_routes.specs.inside.Tables.{side_at, entry_at, AreKnown, origin_beyond, origin_by, IsSeen, AreOrigins};
 
 use crate::sides::Side;
 use gg_flat::{Driver, Node, Op, Piece};

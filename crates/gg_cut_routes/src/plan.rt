@@ -5,10 +5,10 @@ ghost use Rattle.gg_order.specs.Marks.{is_marked};
 ghost use Rattle.gg_cut_plan.specs.Channels.{wires_of};
 ghost use Rattle.gg_cut_plan.specs.Direct.{plan_hub, plan_routes, is_gone};
 ghost use Rattle.gg_cut_plan.specs.Listed.{listed_of};
-ghost use Rattle.gg_cut_split.specs.closed.Apart.{AreApart};
-ghost use Rattle.gg_cut_split.specs.IsShare.{AreShares};
-ghost use Rattle.gg_cut_routes.specs.Routes.{AreRoutes};
-ghost use Rattle.gg_cut_routes.specs.Share.{is_past_hub, past_hub, stays_by};
+ghost use Rattle.gg_cut_split.specs.inside.Apart.{AreApart};
+ghost use Rattle.gg_cut_split.specs.inside.IsShare.{AreShares};
+ghost use Rattle.gg_cut_routes.specs.inside.Routes.{AreRoutes};
+ghost use Rattle.gg_cut_routes.specs.inside.Share.{is_past_hub, past_hub, stays_by};
 
 use crate::barred::barred_of;
 use crate::laws::channels_routed;

@@ -1,7 +1,7 @@
 //! The channels that are left.
 ghost use Rattle.std.specs.Prelude.{◌≡◌, [], ◌∷◌, ◌++◌, ◌<◌, not, if◌then◌else◌, IfSome, length, map, filter, All, IfOk, OnOk};
 ghost use Rattle.gg_order.specs.Marks.{is_marked};
-ghost use Rattle.gg_cut_routes.specs.Tables.{entry_at, AreKnown, from_by, routed_by};
+ghost use Rattle.gg_cut_routes.specs.inside.Tables.{entry_at, AreKnown, from_by, routed_by};
 
 use crate::sides::Side;
 use gg_cut_plan::Wire;

@@ -3,11 +3,11 @@ ghost use Rattle.std.specs.Prelude.{◌≡◌, false, length, IfOk};
 ghost use Rattle.gg_part.specs.KeepsToTree.{KeepsToTree};
 ghost use Rattle.gg_order.specs.Marks.{is_marked};
 ghost use Rattle.gg_cut_plan.specs.Channels.{wires_of};
-ghost use Rattle.gg_cut_split.specs.closed.Apart.{AreApart};
-ghost use Rattle.gg_cut_split.specs.IsShare.{AreShares};
+ghost use Rattle.gg_cut_split.specs.inside.Apart.{AreApart};
+ghost use Rattle.gg_cut_split.specs.inside.IsShare.{AreShares};
 ghost use Rattle.gg_cut_plan.specs.Direct.{hub_of, routes};
-ghost use Rattle.gg_cut_routes.specs.Routes.{AreRoutes};
-ghost use Rattle.gg_cut_routes.specs.Routable.{CanRoute, IsRouting, MarksGone};
+ghost use Rattle.gg_cut_routes.specs.inside.Routes.{AreRoutes};
+ghost use Rattle.gg_cut_routes.specs.inside.Routable.{CanRoute, IsRouting, MarksGone};
 
 use crate::gone::gone_of;
 use crate::laws::channels_routed;

@@ -2,7 +2,7 @@
 ghost use Rattle.std.specs.Prelude.{◌≡◌, ℕ, ◌<◌, ◌==◌, List, if◌then◌else◌, length, filter, replicate, All, IfOk};
 ghost use Rattle.std.specs.List.{list_any};
 ghost use Rattle.gg_cut_routes.specs.declared.sides.Side.TheVariants.{Other, Own};
-ghost use Rattle.gg_cut_routes.specs.Tables.{side_at, side_by, is_makers, AreSides};
+ghost use Rattle.gg_cut_routes.specs.inside.Tables.{side_at, side_by, is_makers, AreSides};
 
 use crate::lists::push_if;
 use gg_cut_plan::Wire;

@@ -1,7 +1,7 @@
 //! The direct channels.
 ghost use Rattle.std.specs.Prelude.{◌≡◌, ◌≢◌, ◌<◌, length, All, AllPairs, IfOk};
 ghost use Rattle.gg_flat.specs.WellFormed.{IsWellFormed};
-ghost use Rattle.gg_cut_routes.specs.Tables.{AreKnown, origin_beyond, given_by, if_given, direct_by, AreEntries};
+ghost use Rattle.gg_cut_routes.specs.inside.Tables.{AreKnown, origin_beyond, given_by, if_given, direct_by, AreEntries};
 
 use crate::origins::{nones, origin_beyond};
 use crate::sides::Side;

@@ -9,7 +9,7 @@ use Rattle.gg_cut_plan.specs.Clocks.{is_ratio, ratio_with}
 use Rattle.gg_cut_plan.specs.Fault.{ratio_fault, unknown_clock}
 use Rattle.gg_bits.specs.Lists.{or_else}
 use Rattle.gg_cut_plan.specs.Listed.{is_among}
-use Rattle.gg_cut_plan.specs.Named.{AreNamed, ratio_named}
+use Rattle.gg_cut_plan.specs.inside.Named.{AreNamed, ratio_named}
 use Rattle.gg_cut_plan.specs.declared.fault.CutFault.TheVariants.{WrongRatio}
 use Rattle.gg_cut_plan.proofs.FindLemmas.{find-same, none-map}
 

@@ -5,11 +5,13 @@ ghost use Rattle.gg_flat.specs.Circuit.{signal_shapes};
 ghost use Rattle.gg_flat.specs.Line.{shape_at};
 ghost use Rattle.gg_cut_plan.specs.Models.{model_names, model_circuits};
 ghost use Rattle.gg_flat.specs.WellFormed.{IsWellFormed};
-ghost use Rattle.gg_cut_plan.specs.Listed.{AreMarks, is_among, place_of};
+ghost use Rattle.gg_cut_plan.specs.inside.Listed.{AreMarks};
+ghost use Rattle.gg_cut_plan.specs.Listed.{is_among, place_of};
 ghost use Rattle.gg_cut_plan.specs.Channels.{channel_names};
 ghost use Rattle.gg_cut_plan.specs.Fault.{IsSmall, Tells};
 ghost use Rattle.gg_bits.specs.Lists.{first_of};
-ghost use Rattle.gg_cut_plan.specs.Bridges.{same_shape, is_of_shape, port_shape, fit_ports, shapes_at, wrong_port, unknown_bridge, unfit_bridge, fits_model, model_named, before_next, own_faults, faults_after, bridge_faults, AreSides};
+ghost use Rattle.gg_cut_plan.specs.Bridges.{same_shape, is_of_shape, port_shape, fit_ports, shapes_at, wrong_port, unknown_bridge, unfit_bridge, fits_model, model_named, before_next, own_faults, faults_after, bridge_faults};
+ghost use Rattle.gg_cut_plan.specs.inside.Bridges.{AreSides};
 ghost use Rattle.gg_cut_plan.specs.declared.fault.CutFault.TheVariants.{UnknownBridge, WrongPort, UnfitBridge, NoMemory};
 
 use crate::capacities::is_channel;

@@ -1,6 +1,7 @@
 //! Channels by name, and the faults of capacities.
 ghost use Rattle.std.specs.Prelude.{◌≡◌, ◌==◌, ◌<◌, length, All};
-ghost use Rattle.gg_cut_plan.specs.Listed.{AreMarks, is_among};
+ghost use Rattle.gg_cut_plan.specs.inside.Listed.{AreMarks};
+ghost use Rattle.gg_cut_plan.specs.Listed.{is_among};
 ghost use Rattle.gg_cut_plan.specs.Channels.{channel_names};
 ghost use Rattle.gg_cut_plan.specs.Fault.{Tells, unknown_channel, range_fault};
 ghost use Rattle.std.specs.Prelude.{option_map};

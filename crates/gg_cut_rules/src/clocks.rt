@@ -2,7 +2,7 @@
 ghost use Rattle.std.specs.Prelude.{◌≡◌, ℕ, List, [], ◌+◌, ◌-◌, ◌<◌, ◌^◌, Some, None, true, length, map, option_map, slice_get, IfOk};
 ghost use Rattle.gg_cut_plan.specs.Clocks.{is_ratio, ratio_of, ratio_with, ratios_of};
 ghost use Rattle.gg_cut_plan.specs.Fault.{Tells, unknown_clock, ratio_fault};
-ghost use Rattle.gg_cut_plan.specs.Named.{AreNamed};
+ghost use Rattle.gg_cut_plan.specs.inside.Named.{AreNamed};
 ghost use Rattle.gg_cut_plan.specs.declared.fault.CutFault.TheVariants.{UnknownClock};
 
 use crate::paths::{has, set_of};

@@ -3,7 +3,8 @@ ghost use Rattle.std.specs.Prelude.{◌≡◌, ℕ, List, ◌<◌, ◌||◌, fal
 ghost use Rattle.std.specs.List.{list_any};
 ghost use Rattle.gg_flat_tree.specs.Tree.{instance_at};
 ghost use Rattle.gg_order.specs.Marks.{is_marked};
-ghost use Rattle.gg_cut_plan.specs.Listed.{ParentsBefore, AreMarks, instance_of, lies};
+ghost use Rattle.gg_cut_plan.specs.inside.Listed.{ParentsBefore, AreMarks};
+ghost use Rattle.gg_cut_plan.specs.Listed.{instance_of, lies};
 ghost use Rattle.gg_cut_plan.specs.Fault.{Tells, overlapping};
 ghost use Rattle.gg_cut_plan.specs.declared.fault.CutFault.TheVariants.{Doubled};
 

@@ -1,6 +1,7 @@
 //! The faults of pipes.
 ghost use Rattle.std.specs.Prelude.{◌≡◌, ◌<◌, ◌^◌, not, option_map, find, length, All};
-ghost use Rattle.gg_cut_plan.specs.Listed.{AreMarks, is_among};
+ghost use Rattle.gg_cut_plan.specs.inside.Listed.{AreMarks};
+ghost use Rattle.gg_cut_plan.specs.Listed.{is_among};
 ghost use Rattle.gg_cut_plan.specs.Channels.{channel_names};
 ghost use Rattle.gg_cut_plan.specs.Fault.{Tells, repeated};
 ghost use Rattle.gg_cut_plan.specs.declared.fault.CutFault.TheVariants.{UnknownPipe, DoubledPipe};

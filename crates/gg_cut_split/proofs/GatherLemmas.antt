@@ -4,7 +4,7 @@ use Rattle.std.specs.Prelude.{slice_index_or}
 use Rattle.std.proofs.lemmas.Bool.{cases_lt}
 use Rattle.std.proofs.lemmas.List.{get_or-set_other, length-set, length_push, get_or_append_left, get_or_push, take-append-le, take_all}
 use Rattle.gg_cut_split.specs.declared.share.Share.{Share}
-use Rattle.gg_cut_split.specs.IsShare.{IsGathered, AreGathered}
+use Rattle.gg_cut_split.specs.inside.IsShare.{IsGathered, AreGathered}
 
 -- after a slice is written to the whole of a vector, the vector holds the slice
 pub written : {A : Type 0} (n : ℕ) (new old : List A) → length new ≡ n → take n (new ++ drop (length new) old) ≡ new

@@ -12,9 +12,10 @@ use Rattle.gg_flat_tree.specs.Tree.{InstanceTree, IsTree, instance_at, memory_at
 use Rattle.gg_cut_plan.specs.declared.wires.Wire.{Wire}
 use Rattle.gg_cut_plan.specs.declared.listed.Listed.{Listed}
 use Rattle.gg_cut_plan.specs.Listed.{owner_of, owner_of_instance}
-use Rattle.gg_cut_plan.specs.Machines.{Counts, first_unit, first_memory, first_source, first_tray, source_after, tray_after, numbering_of}
+use Rattle.gg_cut_plan.specs.inside.Machines.{Counts, numbering_of}
+use Rattle.gg_cut_plan.specs.Machines.{first_unit, first_memory, first_source, first_tray, source_after, tray_after}
 use Rattle.gg_cut_plan.specs.Channels.{wire, numbered, flattened, port_wire, port_wires, reader_wires, writer_wires, field_wires, source_wires, tray_wires, wires_of}
-use Rattle.gg_cut_split.specs.Spread.{held_wires}
+use Rattle.gg_cut_split.specs.inside.Spread.{held_wires}
 use Rattle.gg_cut_plan.proofs.KnownLemmas.{parents-before}
 
 numbered-more : {A B : Type 0} (f : ℕ → A → List B) (n : ℕ) (xs : List A) (i : ℕ) (d : A) → i < length xs → numbered f n (take (suc i) xs) ≡ numbered f n (take i xs) ++ f (n + i) (get_or xs i d)

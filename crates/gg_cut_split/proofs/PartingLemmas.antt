@@ -11,15 +11,15 @@ use Rattle.gg_order.specs.Design.{Ordered, IsDesign}
 use Rattle.gg_cut_plan.specs.declared.wires.Wire.{Wire}
 use Rattle.gg_cut_plan.specs.declared.listed.Listed.{Listed}
 use Rattle.gg_cut_plan.specs.Listed.{first_place, has_signal, memory_or, owner_of, unit_or_hub, memory_owner}
-use Rattle.gg_cut_plan.specs.Machines.{machine_count}
+use Rattle.gg_cut_plan.specs.inside.Machines.{machine_count}
 use Rattle.gg_cut_plan.specs.Channels.{wires_of}
 use Rattle.gg_cut_plan.specs.Plan.{channels_to, channels_from}
 use Rattle.gg_cut_split.specs.declared.share.Share.{Share}
-use Rattle.gg_cut_split.specs.closed.Apart.{AreApart}
-use Rattle.gg_cut_split.specs.CanSplit.{CanSplit}
-use Rattle.gg_cut_split.specs.IsShare.{IsShare, AreShares, AreGathered}
-use Rattle.gg_cut_split.specs.closed.Apart.{AreEnds}
-use Rattle.gg_cut_split.specs.Spread.{AreLists, EachList, AreChannels, signals_among, memories_below, AreSignals, AreMemories}
+use Rattle.gg_cut_split.specs.inside.Apart.{AreApart}
+use Rattle.gg_cut_split.specs.inside.CanSplit.{CanSplit}
+use Rattle.gg_cut_split.specs.inside.IsShare.{IsShare, AreShares, AreGathered}
+use Rattle.gg_cut_split.specs.inside.Apart.{AreEnds}
+use Rattle.gg_cut_split.specs.inside.Spread.{AreLists, EachList, AreChannels, signals_among, memories_below, AreSignals, AreMemories}
 use Rattle.gg_cut_split.proofs.ClosedLemmas.ChoiceLemmas.{wire-known}
 use Rattle.gg_cut_split.proofs.ClosedLemmas.OnceLemmas.{wires-once}
 use Rattle.gg_part.proofs.FrameLemmas.{length-once}

@@ -7,7 +7,7 @@ use Rattle.std.proofs.lemmas.List.{get_or-set_same, get_or-set_other, length-set
 use Rattle.gg_flat.specs.Line.{value_at}
 use Rattle.gg_flat_tree.specs.Tree.{InstanceTree, memory_at}
 use Rattle.gg_cut_plan.proofs.RangeLemmas.{filter-more}
-use Rattle.gg_cut_split.specs.Spread.{AreLists, IsPut, memories_below}
+use Rattle.gg_cut_split.specs.inside.Spread.{AreLists, IsPut, memories_below}
 
 -- the number if the test passes, else nothing
 abbrev pub put-if : Bool → ℕ → List ℕ

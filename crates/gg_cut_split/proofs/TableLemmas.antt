@@ -9,7 +9,7 @@ use Rattle.gg_cut_plan.specs.declared.wires.Wire.{Wire}
 use Rattle.gg_cut_plan.specs.Machines.{memory_after}
 use Rattle.gg_cut_plan.specs.Listed.{first_place, unit_or_hub, has_signal, memory_or}
 use Rattle.gg_cut_plan.proofs.OwnerLemmas.{push-place, first_place-push}
-use Rattle.gg_cut_split.specs.Spread.{claimed, IsChannelBelow}
+use Rattle.gg_cut_split.specs.inside.Spread.{claimed, IsChannelBelow}
 use Rattle.gg_cut_split.proofs.ClosedLemmas.PlaceLemmas.{place-none}
 
 -- ---- owners of signals

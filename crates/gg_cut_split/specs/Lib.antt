@@ -1,7 +1,1 @@
-pub mod Beginning
-pub mod CanSplit
-pub mod Share
-pub mod IsShare
-pub mod Spread
-pub mod closed
-pub mod again
+pub mod inside

@@ -1,7 +1,7 @@
 //! What a split begins with, and what tells the owners too.
 ghost use Rattle.std.specs.Prelude.{◌≡◌, ◌<◌, ◌^◌, IfOk};
-ghost use Rattle.gg_cut_plan.specs.Machines.{machine_count, numbering_of};
-ghost use Rattle.gg_cut_split.specs.Beginning.{IsBeginning, IsWhole};
+ghost use Rattle.gg_cut_plan.specs.inside.Machines.{machine_count, numbering_of};
+ghost use Rattle.gg_cut_split.specs.inside.Beginning.{IsBeginning, IsWhole};
 
 use crate::channels::channels;
 use crate::tables::signal_owners;

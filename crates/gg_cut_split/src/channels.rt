@@ -5,9 +5,10 @@ ghost use Rattle.gg_flat_tree.specs.Tree.{IsTree, instance_at, parent_place};
 ghost use Rattle.gg_cut_plan.specs.Listed.{owner_of, owner_of_instance};
 ghost use Rattle.gg_flat.specs.Circuit.{readers_at};
 ghost use Rattle.gg_flat_tree.specs.Scoped.{writers_at};
-ghost use Rattle.gg_cut_plan.specs.Machines.{first_unit, first_memory, source_after, tray_after, numbering_of};
+ghost use Rattle.gg_cut_plan.specs.Machines.{first_unit, first_memory, source_after, tray_after};
+ghost use Rattle.gg_cut_plan.specs.inside.Machines.{numbering_of};
 ghost use Rattle.gg_cut_plan.specs.Channels.{wire, numbered, flattened, port_wire, port_wires, reader_wires, writer_wires, field_wires, source_wires, wires_of};
-ghost use Rattle.gg_cut_split.specs.Spread.{held_wires};
+ghost use Rattle.gg_cut_split.specs.inside.Spread.{held_wires};
 
 use gg_cut_plan::{Listed, Numbering, Wire};
 use gg_flat::{Piece, Reader, Writer};

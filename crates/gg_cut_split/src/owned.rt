@@ -5,8 +5,8 @@ ghost use Rattle.gg_part.specs.KeepsToTree.{KeepsToTree};
 ghost use Rattle.gg_cut_plan.specs.Listed.{owner_of, memory_owner};
 ghost use Rattle.gg_cut_plan.specs.Channels.{wires_of};
 ghost use Rattle.gg_cut_plan.specs.Plan.{IsInner};
-ghost use Rattle.gg_cut_split.specs.closed.Apart.{AreApart};
-ghost use Rattle.gg_cut_split.specs.Beginning.{IsWhole};
+ghost use Rattle.gg_cut_split.specs.inside.Apart.{AreApart};
+ghost use Rattle.gg_cut_split.specs.inside.Beginning.{IsWhole};
 
 use crate::beginning::{Beginning, Whole, begin};
 use crate::tables::memory_owners;

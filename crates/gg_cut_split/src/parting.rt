@@ -1,12 +1,12 @@
 //! The split: the channels of a cut, and what each machine has.
 ghost use Rattle.std.specs.Prelude.{◌≡◌, ◌<◌, ◌^◌, [], length, set, slice_index_or, IfOk};
 ghost use Rattle.gg_part.specs.KeepsToTree.{KeepsToTree};
-ghost use Rattle.gg_cut_plan.specs.Machines.{machine_count};
+ghost use Rattle.gg_cut_plan.specs.inside.Machines.{machine_count};
 ghost use Rattle.gg_cut_plan.specs.Channels.{wires_of};
-ghost use Rattle.gg_cut_split.specs.closed.Apart.{AreApart};
-ghost use Rattle.gg_cut_split.specs.Beginning.{IsBeginning, IsWhole, ordered_of};
-ghost use Rattle.gg_cut_split.specs.Spread.{EachList, AreSignals, AreMemories};
-ghost use Rattle.gg_cut_split.specs.IsShare.{AreShares, IsGathered, AreGathered};
+ghost use Rattle.gg_cut_split.specs.inside.Apart.{AreApart};
+ghost use Rattle.gg_cut_split.specs.inside.Beginning.{IsBeginning, IsWhole, ordered_of};
+ghost use Rattle.gg_cut_split.specs.inside.Spread.{EachList, AreSignals, AreMemories};
+ghost use Rattle.gg_cut_split.specs.inside.IsShare.{AreShares, IsGathered, AreGathered};
 
 use crate::beginning::{Beginning, Whole, begin};
 use crate::pile::Pile;

@@ -1,6 +1,6 @@
 //! `Pile`: a growing list, one of several.
 ghost use Rattle.std.specs.Prelude.{◌≡◌, ℕ, ◌<◌, [], ◌∷◌, ◌++◌, ◌==◌, length, set, get_or, replicate, OnOk, IfOk};
-ghost use Rattle.gg_cut_split.specs.Spread.{IsPut};
+ghost use Rattle.gg_cut_split.specs.inside.Spread.{IsPut};
 
 use gg_bits::Ids;
 use std::alloc::{AllocError, Global};

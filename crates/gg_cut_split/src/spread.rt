@@ -1,8 +1,8 @@
 //! What each machine has: lists that are filled in one pass each.
 ghost use Rattle.std.specs.Prelude.{◌≡◌, ℕ, ◌<◌, ◌^◌, ◌==◌, ◌||◌, [], length, slice_index_or, All, OnOk, IfOk};
 ghost use Rattle.gg_cut_plan.specs.Plan.{channels_to, channels_from};
-ghost use Rattle.gg_cut_split.specs.closed.Apart.{AreEnds};
-ghost use Rattle.gg_cut_split.specs.Spread.{AreLists, IsPut, AreChannels, has, signals_among, memories_below};
+ghost use Rattle.gg_cut_split.specs.inside.Apart.{AreEnds};
+ghost use Rattle.gg_cut_split.specs.inside.Spread.{AreLists, IsPut, AreChannels, has, signals_among, memories_below};
 
 use crate::pile::{Pile, piles, put};
 use gg_cut_plan::Wire;

@@ -3,7 +3,7 @@ ghost use Rattle.std.specs.Prelude.{◌≡◌, ℕ, ◌<◌, ◌≤◌, ◌^◌,
 ghost use Rattle.gg_flat.specs.Line.{value_at};
 ghost use Rattle.gg_flat_tree.specs.Tree.{instance_at, memory_at};
 ghost use Rattle.gg_cut_plan.specs.Listed.{first_place, unit_or_hub, has_signal, memory_or, owner_of_instance, memory_owner};
-ghost use Rattle.gg_cut_split.specs.Spread.{claimed, AreChannels};
+ghost use Rattle.gg_cut_split.specs.inside.Spread.{claimed, AreChannels};
 
 use gg_cut_plan::{Listed, Numbering, Wire};
 use gg_flat_tree::Tree;

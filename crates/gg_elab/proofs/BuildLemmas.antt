@@ -3,7 +3,7 @@ use Rattle.std.proofs.Common.{◌≡◌, ℕ, ◌+◌, ◌<◌, ◌≤◌, List,
 use Rattle.std.specs.Prelude.{count_by, All, MatchOption, ⊤}
 use Rattle.std.proofs.lemmas.List.Elements.{All-push}
 use Rattle.gg_flat.specs.WellFormed.{IsRegister}
-use Rattle.gg_elab_tree.specs.Fitting.{FitsDriver, IsFitting}
+use Rattle.gg_elab_tree.specs.inside.Fitting.{FitsDriver, IsFitting}
 use Rattle.std.proofs.lemmas.List.{map-append, length-append, length-map, get_or_append_left, get_or_push, take-append-le, take_all, append-nil}
 use Rattle.std.proofs.lemmas.List.Sums.{sum_by_push}
 use Rattle.gg_bits.specs.Shape.{Shape, shape, uint}
@@ -18,7 +18,7 @@ use Rattle.gg_flat.specs.Line.{shape_at, HasType}
 use Rattle.gg_elab_sites.specs.Flat.{Drive, Outside, Gets, Holds, Answers, FlatSignal}
 use Rattle.gg_elab_sites.specs.IsFlat.{IsRegisterOf, IsDrivenBy, is_outside, is_register, drive_at, count_before}
 use Rattle.gg_elab_sites.specs.Meaning.{Bindings, in_scope}
-use Rattle.gg_elab.specs.Building.{IsMade, with_made, is_input_driver, IsSoFar}
+use Rattle.gg_elab.specs.inside.Building.{IsMade, with_made, is_input_driver, IsSoFar}
 
 abbrev drives : List FlatSignal → List Drive
 drives xs = map (λ (x : FlatSignal). x.drive) xs

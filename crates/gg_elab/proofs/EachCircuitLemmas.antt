@@ -14,7 +14,7 @@ use Rattle.gg_elab_sites.specs.Sites.{Site, module_at, sites_of}
 use Rattle.gg_flat.specs.declared.memory.Memory.{Memory}
 use Rattle.gg_flat.specs.Circuit.{FlatCircuit}
 use Rattle.gg_flat.specs.Line.{shape_at}
-use Rattle.gg_elab_tree.specs.Fitting.{AreFitting}
+use Rattle.gg_elab_tree.specs.inside.Fitting.{AreFitting}
 use Rattle.gg_types.specs.Clocks.{clock_inputs}
 use Rattle.gg_types.specs.Types.{type_faults}
 use Rattle.gg_elab_sites.specs.Flat.{FlatMemory, FlatSignal, flat_memories, flat_memory, flat_signals, memories_at, stop_paths}
@@ -23,7 +23,7 @@ use Rattle.gg_elab_sites.specs.Known.{types_of}
 use Rattle.gg_elab_sites.specs.Meaning.{Bindings}
 use Rattle.gg_types.specs.Memories.{Bank, bank_of}
 use Rattle.gg_elab_sites.specs.Signals.{OwnBank, bank_of_kind, own_bank, own_banks}
-use Rattle.gg_elab.specs.Building.{HasMemories}
+use Rattle.gg_elab.specs.inside.Building.{HasMemories}
 use Rattle.gg_elab.proofs.EachSignalLemmas.{Built, all-built, none-built}
 use Rattle.gg_elab.proofs.SizedLemmas.{IsSized, WordSized, bank-sized, shape-sized, signals-sized, type_of}
 use Rattle.gg_elab.proofs.WholeLemmas.{fitting_whole, memories-push, whole}

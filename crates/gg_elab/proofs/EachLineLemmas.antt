@@ -6,7 +6,8 @@ use Rattle.std.proofs.lemmas.Nat.{pow_pos}
 use Rattle.gg_bits.specs.declared.types.Bad.{Bad}
 use Rattle.gg_bits.specs.declared.types.Ty.{Ty}
 use Rattle.gg_bits.specs.ResultType.{is_condition, kinds2, params_const, same_kind, shape1, shape2, shape_const, shape_mux, type1, type2, type_const, type_mux}
-use Rattle.gg_bits.specs.Shape.{Fits, Shape, of_kind, shape_of as shape_found, uint}
+use Rattle.gg_bits.specs.Shape.{Fits, Shape, of_kind, uint}
+use Rattle.gg_bits.specs.inside.Shape.{shape_of as shape_found}
 use Rattle.gg_ast.specs.declared.expression.Literal as literals
 use Rattle.gg_ast.specs.declared.expression.Reference.{Reference}
 use Rattle.gg_ast.specs.Term.{Term, NamedTerm, ConstantTerm, UnaryTerm, BinaryTerm, FixedTerm, MuxTerm}
@@ -26,7 +27,7 @@ use Rattle.gg_types.proofs.WidthLemmas.{answer-wide}
 use Rattle.gg_elab_sites.specs.Connection.{Connection, ConnectedTo, Zeroed}
 use Rattle.gg_elab_sites.specs.IsFlat.{IsConditionOf, IsLineFor, IsLineOf}
 use Rattle.gg_elab_sites.specs.Meaning.{Context, named, named_if, takes, term_shape}
-use Rattle.gg_elab.specs.Growing.{Added, IsCut, IsResultNode, IsZeroNode, IsZeroOf}
+use Rattle.gg_elab.specs.inside.Growing.{Added, IsCut, IsResultNode, IsZeroNode, IsZeroOf}
 use Rattle.gg_elab.proofs.LineLemmas.{added_fix, added_literal, added_mux, added_no_literal, added_nothing, added_one, added_reference, added_two}
 use Rattle.gg_elab.proofs.SizedLemmas.{IsSized, one-bit, type_of}
 use Rattle.gg_elab.proofs.WholeLineLemmas.{condition_fits, condition_stands, cut_fits, cut_stands, zero_connected, zero_laid}

@@ -14,12 +14,12 @@ use Rattle.gg_flat.specs.declared.piece.Reset as kept
 use Rattle.gg_flat.specs.Circuit.{FlatCircuit, no_circuit}
 use Rattle.gg_flat.specs.Line.{HasType, IsSource, shape_at}
 use Rattle.gg_flat.specs.WellFormed.{IsReset}
-use Rattle.gg_elab_tree.specs.Fitting.{FitsDriver, IsFitting}
+use Rattle.gg_elab_tree.specs.inside.Fitting.{FitsDriver, IsFitting}
 use Rattle.gg_elab_sites.specs.Connection.{Connection}
 use Rattle.gg_elab_sites.specs.Flat.{Answers, Drive, FlatSignal, Gets, Holds, Outside, Scope}
 use Rattle.gg_elab_sites.specs.IsFlat.{HasNext, HasReset, answer, number_of}
 use Rattle.gg_elab_sites.specs.Meaning.{Bindings, Context, in_scope}
-use Rattle.gg_elab.specs.Building.{IsMade, IsSoFar, is_input_driver, with_made}
+use Rattle.gg_elab.specs.inside.Building.{IsMade, IsSoFar, is_input_driver, with_made}
 use Rattle.gg_elab.proofs.BuildLemmas.{so_far-more}
 use Rattle.gg_elab.proofs.EachLineLemmas.{connected, taken, tested}
 use Rattle.gg_elab.proofs.SizedLemmas.{AreFlatSized, IsSized, type_of}

@@ -9,7 +9,7 @@ use Rattle.gg_elab_sites.specs.Sites.{module_at}
 use Rattle.gg_elab_sites.specs.declared.digest.Digest.{Digest}
 use Rattle.gg_elab.specs.Limits.{own_counts, excess_over}
 use Rattle.gg_elab_sites.specs.Signals.{Types, own_signals}
-use Rattle.gg_elab_sites.specs.Views.{own_of, AreDigests}
+use Rattle.gg_elab_sites.specs.inside.Views.{own_of, AreDigests}
 
 counted-from : (types : Types) (k : ℕ) (rest : List ModuleTree) (ds : List Digest) → length ds ≡ length rest → ((j : ℕ) (any : Digest) → j < length rest → length (get_or ds j any).signals.items ≡ length (own_signals types (k + j) (module_at rest j))) → map (λ d. length d.signals.items) ds ≡ own_counts types k rest
 counted-from types k [] [] count each = refl

@@ -12,7 +12,8 @@ use Rattle.gg_bits.specs.declared.ops.Op1.{Op1}
 use Rattle.gg_bits.specs.declared.ops.Op2.{Op2}
 use Rattle.gg_bits.specs.declared.ops.OpN.{OpN}
 use Rattle.gg_bits.specs.ResultType.{type1, type2, type_const, type_mux}
-use Rattle.gg_bits.specs.Shape.{Shape, shape, shape_of as shape_found, uint, Fits}
+use Rattle.gg_bits.specs.Shape.{Shape, shape, uint, Fits}
+use Rattle.gg_bits.specs.inside.Shape.{shape_of as shape_found}
 use Rattle.gg_ast.specs.declared.expression.Reference.{Reference}
 use Rattle.gg_ast.specs.declared.expression.Literal as literals
 use Rattle.gg_ast.specs.Term.{Term, NamedTerm, ConstantTerm, UnaryTerm, BinaryTerm, FixedTerm, MuxTerm}
@@ -27,7 +28,7 @@ use Rattle.gg_types.specs.Literal.{literal_value}
 use Rattle.gg_types.specs.Types.{literal_shape}
 use Rattle.gg_elab_sites.specs.Lines.{Laid, laid_node, laid, with_laid, with_number, with_signal, with_literal, with_result, with_term, last_of}
 use Rattle.gg_elab_sites.specs.Meaning.{Context, named, accepted, term_shape, term_value, TermNames}
-use Rattle.gg_elab.specs.Growing.{IsZeroNode, IsResultNode, HaveShapes, StandsFor, Added}
+use Rattle.gg_elab.specs.inside.Growing.{IsZeroNode, IsResultNode, HaveShapes, StandsFor, Added}
 
 -- ---- lists
 

@@ -5,7 +5,7 @@ use Rattle.gg_bits.specs.Shape.{shape}
 use Rattle.gg_ast.specs.Term.{Term}
 use Rattle.gg_flat.specs.declared.line.Node.{Node}
 use Rattle.gg_elab.specs.declared.expression.Stand.{Stand}
-use Rattle.gg_elab.specs.Growing.{IsPlaced, Added}
+use Rattle.gg_elab.specs.inside.Growing.{IsPlaced, Added}
 use Rattle.gg_elab_sites.specs.Meaning.{Context, term_shape}
 use Rattle.gg_elab.proofs.LineLemmas.{shape_at-last}
 

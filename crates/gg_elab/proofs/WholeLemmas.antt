@@ -18,8 +18,8 @@ use Rattle.gg_flat.specs.declared.piece.Signal.{Signal}
 use Rattle.gg_flat.specs.Circuit.{FlatCircuit, signal_shapes, driver_at}
 use Rattle.gg_flat.specs.Line.{shape_at, HasType}
 use Rattle.gg_flat.specs.WellFormed.{IsRegister}
-use Rattle.gg_elab_tree.specs.Fitting.{FitsDriver, AreFitting}
-use Rattle.gg_elab.specs.Building.{IsSoFar, HasMemories}
+use Rattle.gg_elab_tree.specs.inside.Fitting.{FitsDriver, AreFitting}
+use Rattle.gg_elab.specs.inside.Building.{IsSoFar, HasMemories}
 use Rattle.gg_flat_tree.specs.Tree.{joined}
 use Rattle.gg_types.specs.Clocks.{clock_inputs}
 use Rattle.gg_elab_sites.specs.declared.digest.Digest.{Digest}
@@ -29,7 +29,7 @@ use Rattle.gg_elab_sites.specs.Flat.{FlatSignal, FlatMemory, flat_signals, flat_
 use Rattle.gg_elab_sites.specs.IsFlat.{IsFlatOf, IsMemoryOf, signals_of, memory_paths, number_of, port_name, port_names, top_ports}
 use Rattle.gg_elab_sites.specs.Meaning.{Signals, Bindings}
 use Rattle.gg_elab_sites.specs.Signals.{OwnStop, Types}
-use Rattle.gg_elab_sites.specs.Views.{IsDigest, own_stop_of, site_of}
+use Rattle.gg_elab_sites.specs.inside.Views.{IsDigest, own_stop_of, site_of}
 use Rattle.gg_elab_sites.proofs.FlatLemmas.{one_more}
 
 -- what a circuit's names stand for by its types, its signals and the paths of its memories

@@ -17,7 +17,7 @@ use Rattle.gg_flat.specs.declared.line.Node.{Node}
 use Rattle.gg_flat.specs.declared.line.Op.TheVariants.{Ref, Literal}
 use Rattle.gg_flat.specs.Line.{shape_at, value_at, shapes_of, HasType, IsLine, IsSource, IsCondition, line_shape, line_value, node_values, connected_value}
 use Rattle.gg_flat.specs.Reads.{Names}
-use Rattle.gg_elab.specs.Growing.{HaveShapes, Added, IsZeroOf, IsCut}
+use Rattle.gg_elab.specs.inside.Growing.{HaveShapes, Added, IsZeroOf, IsCut}
 use Rattle.gg_elab_sites.specs.IsFlat.{IsLineOf, IsConditionOf}
 use Rattle.gg_elab_sites.specs.Lines.{laid, with_number, cut_line, with_term}
 use Rattle.gg_elab_sites.specs.Meaning.{Context, term_shape, term_value, TermNames, takes}

@@ -1,4 +1,3 @@
-pub mod Growing
-pub mod Building
 pub mod Limits
 pub mod ElabText
+pub mod inside

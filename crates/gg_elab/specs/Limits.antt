@@ -1,11 +1,9 @@
 -- Which count of a circuit is above its limit, if any.
 -- Source: this program's own; the counts and the limits are gg_elab_sites's.
-use Rattle.std.specs.Prelude.{◌≡◌, ℕ, suc, List, [], ◌∷◌, Option, Some, None, Result, Ok, Err, length}
+use Rattle.std.specs.Prelude.{ℕ, suc, List, [], ◌∷◌, Option, Some, None, length}
 use Rattle.gg_ast.specs.Tree.{ModuleTree}
 use Rattle.gg_elab_sites.specs.declared.counts.Excess.{Excess}
 use Rattle.gg_elab_sites.specs.Counts.{counts_of, first_excess}
-use Rattle.gg_elab.specs.declared.fault.ElabFault.{ElabFault}
-use Rattle.gg_elab.specs.declared.fault.ElabFault.TheVariants.{TooLarge, NoMemory}
 use Rattle.gg_elab_sites.specs.Signals.{Types, own_signals}
 
 -- the number of own signals of each module, from place k on
@@ -17,9 +15,3 @@ own_counts types k (m ∷ ms) = length (own_signals types k m) ∷ own_counts ty
 abbrev pub excess_over : Types → List ModuleTree → Option ℕ → Option Excess
 excess_over types modules None = None
 excess_over types modules (Some top) = first_excess (counts_of modules (own_counts types 0 modules) top)
-
--- Ok if no count is above its limit, else the first that is. `NoMemory` implies nothing.
-abbrev pub IsAnswered : {A : Type 0} → Option Excess → Result A ElabFault → Type 0
-IsAnswered excess (Ok _) = excess ≡ None
-IsAnswered excess (Err (TooLarge e)) = excess ≡ Some e
-IsAnswered excess (Err NoMemory) = Unit {0}

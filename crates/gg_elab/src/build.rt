@@ -3,7 +3,7 @@ ghost use Rattle.std.specs.Prelude.{◌≡◌, ◌≢◌, ◌<◌, ◌-◌, ◌^
 ghost use Rattle.gg_bits.specs.Shape.{Shape, shape};
 ghost use Rattle.gg_flat.specs.Line.{HasType, IsSource};
 ghost use Rattle.gg_flat.specs.WellFormed.{IsRegister, IsReset};
-ghost use Rattle.gg_elab_tree.specs.Fitting.{FitsDriver, IsFitting};
+ghost use Rattle.gg_elab_tree.specs.inside.Fitting.{FitsDriver, IsFitting};
 ghost use Rattle.gg_elab_sites.specs.Flat.{drive_of, input_drive, FlatSignal, flat_signal, signals_at, flat_signals, Gets};
 ghost use Rattle.gg_elab_sites.specs.Sites.{module_at};
 ghost use Rattle.gg_flat.specs.Circuit.{no_circuit};
@@ -11,11 +11,11 @@ ghost use Rattle.gg_flat_tree.specs.Clocked.{clock_at as clock_at_number};
 ghost use Rattle.gg_elab_sites.specs.Clocks.{clock_of as clock_of_term, site_clocks};
 ghost use Rattle.gg_flat_tree.specs.Tree.{joined as joined_text};
 ghost use Rattle.gg_elab_sites.specs.Signals.{field_name as field_text};
-ghost use Rattle.gg_elab_sites.specs.Views.{table_bindings, table_signals, seen, cause_of, own_of, site_of, AreDigests, IsPlaceIn};
-ghost use Rattle.gg_elab.specs.Growing.{context_of};
+ghost use Rattle.gg_elab_sites.specs.inside.Views.{table_bindings, table_signals, seen, cause_of, own_of, site_of, AreDigests, IsPlaceIn};
+ghost use Rattle.gg_elab.specs.inside.Growing.{context_of};
 ghost use Rattle.gg_elab_sites.specs.IsFlat.{IsRegisterOf, HasReset, HasNext, number_of, answer as answer_of};
 ghost use Rattle.gg_elab_sites.specs.Known.{types_of};
-ghost use Rattle.gg_elab.specs.Building.{IsMade, with_made, is_input_driver, IsSoFar, IsSoFarAt};
+ghost use Rattle.gg_elab.specs.inside.Building.{IsMade, with_made, is_input_driver, IsSoFar, IsSoFarAt};
 
 use crate::lines::{condition_line, source_line, value_line};
 use crate::scope::Scope;

@@ -2,9 +2,9 @@
 ghost use Rattle.std.specs.Prelude.{◌≡◌, ◌≢◌, ◌<◌, ◌^◌, length, map, Some, None, Err, IfOk};
 ghost use Rattle.gg_ast.specs.Places.{place_of};
 ghost use Rattle.gg_ast.specs.Tree.{module_names};
-ghost use Rattle.gg_elab_sites.specs.Views.{AreDigests};
+ghost use Rattle.gg_elab_sites.specs.inside.Views.{AreDigests};
 ghost use Rattle.gg_elab_sites.specs.IsFlat.{IsFlat, IsFlatWith};
-ghost use Rattle.gg_elab_tree.specs.Fitting.{AreFitting};
+ghost use Rattle.gg_elab_tree.specs.inside.Fitting.{AreFitting};
 ghost use Rattle.gg_elab_tree.specs.Held.{AreHeldOnce};
 ghost use Rattle.gg_flat_tree.specs.Clocked.{IsClocked};
 ghost use Rattle.gg_flat_tree.specs.Scoped.{IsScoped};
@@ -12,7 +12,8 @@ ghost use Rattle.gg_flat_tree.specs.Tree.{IsTree};
 ghost use Rattle.gg_flat.specs.WellFormed.{IsWellFormed};
 ghost use Rattle.gg_elab_tree.specs.IsTreeOf.{IsTreeOf};
 ghost use Rattle.gg_elab_sites.specs.Known.{types_of};
-ghost use Rattle.gg_elab.specs.Limits.{excess_over, IsAnswered};
+ghost use Rattle.gg_elab.specs.Limits.{excess_over};
+ghost use Rattle.gg_elab.specs.inside.Limits.{IsAnswered};
 
 use crate::build::add_sites;
 use crate::fault::ElabFault;

@@ -3,7 +3,7 @@ ghost use Rattle.std.specs.Prelude.{◌≡◌, ◌<◌, IfOk};
 ghost use Rattle.gg_bits.specs.Shape.{shape};
 ghost use Rattle.gg_ast.specs.Term.{NamedTerm, ConstantTerm};
 ghost use Rattle.gg_elab_sites.specs.Meaning.{term_shape};
-ghost use Rattle.gg_elab.specs.Growing.{context_of, IsZeroNode, IsResultNode, IsPlaced, Added};
+ghost use Rattle.gg_elab.specs.inside.Growing.{context_of, IsZeroNode, IsResultNode, IsPlaced, Added};
 
 use crate::lookup::find;
 use crate::scope::Scope;

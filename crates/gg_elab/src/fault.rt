@@ -20,7 +20,7 @@ pub enum ElabFault {
 
 impl fmt::Display for ElabFault {
     ghost use Rattle.std.specs.Prelude.{Some};
-    ghost use Rattle.gg_elab.specs.ElabText.{elab_text};
+    ghost use Rattle.gg_elab.specs.inside.ElabText.{elab_text};
 
     ghost output = { λ fault. Some (elab_text fault) };
 

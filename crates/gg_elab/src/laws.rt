@@ -3,7 +3,7 @@ ghost use Rattle.std.specs.Prelude.{◌≡◌, []};
 ghost use Rattle.gg_ast.specs.Tree.{CircuitTree};
 ghost use Rattle.gg_flat.specs.Circuit.{FlatCircuit};
 ghost use Rattle.gg_types.specs.Types.{type_faults};
-ghost use Rattle.gg_elab_tree.specs.Fitting.{AreFitting};
+ghost use Rattle.gg_elab_tree.specs.inside.Fitting.{AreFitting};
 ghost use Rattle.gg_elab_sites.specs.IsFlat.{IsFlat};
 
 /// A circuit without faults of types has a flat circuit. Each line of it may be connected to what it drives.

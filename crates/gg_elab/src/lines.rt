@@ -2,11 +2,11 @@
 ghost use Rattle.std.specs.Prelude.{◌≡◌, Some, None, IfOk, OnOk};
 ghost use Rattle.gg_bits.specs.Shape.{shape};
 ghost use Rattle.gg_flat.specs.Line.{HasType, IsSource, IsCondition};
-ghost use Rattle.gg_elab.specs.Growing.{context_of, IsCut, IsZeroOf};
+ghost use Rattle.gg_elab.specs.inside.Growing.{context_of, IsCut, IsZeroOf};
 ghost use Rattle.gg_elab_sites.specs.IsFlat.{IsLineFor, IsLineOf, IsConditionOf};
 ghost use Rattle.gg_bits.specs.ResultType.{is_condition};
 ghost use Rattle.gg_elab_sites.specs.Meaning.{takes as takes_shape};
-ghost use Rattle.gg_elab_sites.specs.Views.{seen, connection};
+ghost use Rattle.gg_elab_sites.specs.inside.Views.{seen, connection};
 ghost use Rattle.gg_elab_sites.specs.Connection.{Zeroed};
 
 use crate::expression::add_expression;

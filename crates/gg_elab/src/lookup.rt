@@ -1,7 +1,7 @@
 //! The signal that a reference names.
 ghost use Rattle.std.specs.Prelude.{◌≡◌, IfOk};
 ghost use Rattle.gg_elab_sites.specs.Meaning.{named};
-ghost use Rattle.gg_elab.specs.Growing.{context_of};
+ghost use Rattle.gg_elab.specs.inside.Growing.{context_of};
 
 use crate::scope::Scope;
 use gg_ast::Reference;

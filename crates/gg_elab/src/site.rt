@@ -4,7 +4,7 @@ ghost use Rattle.std.specs.Coded.{codes, Coded-set};
 ghost use Rattle.std.proofs.Props.{props};
 ghost use Rattle.gg_ast.specs.contracts.expression.Expr as expression;
 ghost use Rattle.gg_elab_sites.specs.Known.{types_of};
-ghost use Rattle.gg_elab_sites.specs.Views.{AreDigests, IsPlaceIn};
+ghost use Rattle.gg_elab_sites.specs.inside.Views.{AreDigests, IsPlaceIn};
 
 use gg_elab_sites::{Digest, Place, Table};
 use gg_types::Typed;

@@ -11,7 +11,7 @@ use Rattle.gg_elab_sites.specs.declared.connections.Source.{Source}
 use Rattle.gg_elab_sites.proofs.NameLemmas.{slice_get-at}
 use Rattle.gg_elab_sites.specs.Connection.{Connection, connection_by, connection_in}
 use Rattle.gg_bits.specs.Lists.{or_else}
-use Rattle.gg_elab_sites.specs.Views.{connection, source_at, TellsConnections}
+use Rattle.gg_elab_sites.specs.inside.Views.{connection, source_at, TellsConnections}
 
 -- the elements of a list are the same with one more after them
 get-push : {A : Type 0} (xs : List A) (x : A) (i : ℕ) → i < length xs → slice_get (xs ++ x ∷ []) i ≡ slice_get xs i

@@ -15,8 +15,9 @@ use Rattle.gg_ast.specs.Tree.{ModuleTree, names_of, empty_module}
 use Rattle.gg_ast.proofs.NamePlaces.{place_of-below}
 use Rattle.gg_elab_sites.specs.declared.pass.Gathering.{Gathering}
 use Rattle.gg_elab_sites.specs.declared.pass.Gathering.TheVariants.{Sum, Height, Least}
-use Rattle.gg_elab_sites.specs.Counts.{capped, deepest, words_in, deep_in, deep_or, deep_from, deep_place, deep_places, deep_at, is_reached}
-use Rattle.gg_elab_sites.specs.Graph.{gathered_over, value_below}
+use Rattle.gg_elab_sites.specs.Counts.{capped, deepest, words_in, deep_in, deep_or, deep_from, is_reached}
+use Rattle.gg_elab_sites.specs.inside.Counts.{deep_place, deep_places, deep_at}
+use Rattle.gg_elab_sites.specs.inside.Graph.{gathered_over, value_below}
 use Rattle.gg_elab_sites.specs.Sites.{Site, Held, held, held_by, held_by_kind, held_at, module_at, site_below, sites, top_site, all_sites}
 use Rattle.gg_elab_sites.proofs.PassLemmas.{numbers_of, gathered_over-same}
 

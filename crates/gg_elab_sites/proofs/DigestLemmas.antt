@@ -4,7 +4,7 @@ use Rattle.std.proofs.lemmas.List.{get_or_append_left, get_or_push, length-appen
 use Rattle.gg_ast.specs.Tree.{ModuleTree}
 use Rattle.gg_elab_sites.specs.declared.digest.Digest.{Digest}
 use Rattle.gg_elab_sites.specs.Signals.{Types}
-use Rattle.gg_elab_sites.specs.Views.{IsDigest}
+use Rattle.gg_elab_sites.specs.inside.Views.{IsDigest}
 
 pub digests-more : (types : Types) (modules : List ModuleTree) (old new : List Digest) (next : Digest) (i : ℕ) → length old ≡ i → ((k : ℕ) (any : Digest) → k < i → IsDigest types modules k (get_or old k any)) → new ≡ old ++ next ∷ [] → IsDigest types modules i next → (length new ≡ i + 1) × ((k : ℕ) (any : Digest) → k < i + 1 → IsDigest types modules k (get_or new k any))
 digests-more types modules old new next i count each is own = (

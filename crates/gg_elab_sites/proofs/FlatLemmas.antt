@@ -15,7 +15,7 @@ use Rattle.gg_elab_sites.specs.declared.own.OwnSignal.{OwnSignal}
 use Rattle.gg_elab_sites.specs.declared.sites.Place.{Place}
 use Rattle.gg_elab_sites.specs.declared.table.Table.{Table}
 use Rattle.gg_elab_sites.specs.Flat.{FlatSignal, flat_signal, signals_at, flat_signals, FlatMemory, flat_memory, memories_at, flat_memories}
-use Rattle.gg_elab_sites.specs.Views.{table_signals, own_of, own_bank_of, site_of, IsDigest, AreDigests}
+use Rattle.gg_elab_sites.specs.inside.Views.{table_signals, own_of, own_bank_of, site_of, IsDigest, AreDigests}
 use Rattle.gg_elab_sites.specs.IsFlat.{signals_of, memory_paths}
 use Rattle.gg_elab_sites.specs.Meaning.{Signals}
 use Rattle.gg_elab_sites.specs.Signals.{Types}

@@ -7,10 +7,11 @@ use Rattle.gg_ast.specs.declared.statement.StmtKind.{StmtKind}
 use Rattle.gg_ast.specs.declared.statement.StmtKind.TheVariants as says
 use Rattle.gg_ast.specs.Places.{place_of}
 use Rattle.gg_ast.specs.Tree.{ModuleTree, names_of}
-use Rattle.gg_elab_sites.specs.Sites.{Held, held, held_by, held_by_kind, module_at, HoldsModule}
+use Rattle.gg_elab_sites.specs.Sites.{Held, held, held_by, held_by_kind, module_at}
+use Rattle.gg_elab_sites.specs.inside.Sites.{HoldsModule}
 use Rattle.gg_elab_sites.proofs.PassLemmas.{numbers_of}
 use Rattle.gg_shape_names.specs.Modules as names
-use Rattle.gg_graph.specs.Graph.{IsOrderOf}
+use Rattle.gg_graph.specs.inside.Graph.{IsOrderOf}
 
 -- the module of a statement's instance is the same in both definitions
 same-kind : (modules : List ModuleTree) (kind : StmtKind) → numbers_of (option_to_list (held_by_kind modules kind)) ≡ names.held_by_kind modules kind

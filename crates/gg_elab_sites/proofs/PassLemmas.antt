@@ -9,12 +9,13 @@ use Rattle.std.proofs.lemmas.Map.Views.{Contains-from_any}
 use Rattle.std.proofs.lemmas.Bool.{ne_eqb, eqb-true}
 use Rattle.gg_ast.specs.declared.statement.Stmt.{Stmt}
 use Rattle.gg_ast.specs.Tree.{ModuleTree}
-use Rattle.gg_graph.specs.Graph.{IsOrderOf}
+use Rattle.gg_graph.specs.inside.Graph.{IsOrderOf}
 use Rattle.gg_graph.proofs.ListLemmas.{below-more, below-all}
 use Rattle.gg_flat.proofs.ListLemmas.{further}
 use Rattle.gg_elab_sites.specs.declared.pass.Gathering.{Gathering}
-use Rattle.gg_elab_sites.specs.Sites.{Held, held_by, held_at, module_at, HoldsModule}
-use Rattle.gg_elab_sites.specs.Graph.{gathered, gathered_over, value_below}
+use Rattle.gg_elab_sites.specs.Sites.{Held, held_by, held_at, module_at}
+use Rattle.gg_elab_sites.specs.inside.Sites.{HoldsModule}
+use Rattle.gg_elab_sites.specs.inside.Graph.{gathered, gathered_over, value_below}
 
 -- the places of the modules of these instances
 abbrev pub numbers_of : List Held → List ℕ

@@ -13,7 +13,7 @@ use Rattle.gg_elab_sites.specs.declared.sites.Around.{Around}
 use Rattle.gg_elab_sites.specs.declared.sites.Above.{Above}
 use Rattle.gg_elab_sites.specs.declared.sites.Place.{Place}
 use Rattle.gg_elab_sites.specs.Clocks.{clocks_given, own_clocks, site_clocks}
-use Rattle.gg_elab_sites.specs.Views.{held_of, site_of, step_of, IsAbove, IsPlaceIn}
+use Rattle.gg_elab_sites.specs.inside.Views.{held_of, site_of, step_of, IsAbove, IsPlaceIn}
 
 -- The list has the sites before, then the site `here`, then those of some of the instances that it holds, down to so many levels.
 pub record Grown (modules : List ModuleTree) (levels : ℕ) (here : Site) (before : List Site) (hs : List Held) (all : List Site) : Type 0 where

@@ -12,7 +12,7 @@ use Rattle.gg_ast.specs.Tree.{ModuleTree, empty_module}
 use Rattle.gg_elab_sites.specs.Sites.{module_at}
 use Rattle.gg_elab_sites.specs.declared.digest.Digest.{Digest}
 use Rattle.gg_elab_sites.specs.Signals.{Asked, OwnStop, Types, numbered, own_stops, stop_name, stop_of_kind}
-use Rattle.gg_elab_sites.specs.Views.{AreDigests, own_stop_of}
+use Rattle.gg_elab_sites.specs.inside.Views.{AreDigests, own_stop_of}
 use Rattle.gg_elab_sites.proofs.AmongLemmas.{element-at}
 
 -- one more stop, if a statement makes one

@@ -1,7 +1,7 @@
 -- What is counted over the sites of a circuit, and the limits.
 -- Source: FIRRTL Specification, "Instances", "Memories" (depth). The limits are this program's. A count saturates at
 -- 2^64 - 1.
-use Rattle.std.specs.Prelude.{ℕ, suc, ◌-◌, ◌^◌, min, max, Bool, true, false, List, [], ◌∷◌, Option, Some, None, length, fold, slice_index_or, nat_lt, nat_eq, is_some, if◌then◌else◌}
+use Rattle.std.specs.Prelude.{ℕ, suc, ◌-◌, ◌^◌, min, max, Bool, true, false, List, [], ◌∷◌, Option, Some, None, length, fold, slice_index_or, nat_lt, nat_eq, if◌then◌else◌}
 use Rattle.std.specs.List.{sum_by, list_any}
 use Rattle.gg_types.specs.Fields.{depth_said}
 use Rattle.gg_ast.specs.declared.statement.Field.{Field}
@@ -90,21 +90,6 @@ counts_over modules own all =
 -- the counts of the module at a place as the top
 abbrev pub counts_of : List ModuleTree → List ℕ → ℕ → Counts
 counts_of modules own k = counts_over modules own (all_sites modules k)
-
--- ---- which module has the first memory that is too deep
-
--- the place of a module if it has a memory that is too deep, else a number that isn't a place
-abbrev pub deep_place : ℕ → List Stmt → ℕ
-deep_place k statements = if is_some (deep_in statements) then k else 2 ^ 64 - 1
-
--- the same for the modules from place k on
-abbrev pub deep_places : ℕ → List ModuleTree → List ℕ
-deep_places k [] = []
-deep_places k (m ∷ ms) = deep_place k m.statements ∷ deep_places (suc k) ms
-
--- the depth of the first memory that is too deep in the module at a place; none past the end
-abbrev pub deep_at : List ModuleTree → ℕ → Option ℕ
-deep_at modules k = if nat_lt k (length modules) then deep_in (module_at modules k).statements else None
 
 -- ---- limits
 

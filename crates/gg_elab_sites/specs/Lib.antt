@@ -6,7 +6,6 @@ pub mod Known
 pub mod Meaning
 pub mod Lines
 pub mod IsFlat
-pub mod Views
 pub mod Sites
 pub mod Counts
-pub mod Graph
+pub mod inside

@@ -1,7 +1,7 @@
 -- The instances of a circuit: the top and, below it, the instances that each module holds.
 -- Source: FIRRTL Specification, "Circuits and Modules" (the module of the circuit's name is the top), "Instances".
 pub use Rattle.gg_ast.specs.Tree.{module_at}
-use Rattle.std.specs.Prelude.{ℕ, zero, suc, List, [], ◌∷◌, Option, Some, None, length, map, Contains}
+use Rattle.std.specs.Prelude.{ℕ, zero, suc, List, [], ◌∷◌, Option, Some, None, length}
 use Rattle.std.specs.List.{flat_map, filter_map}
 use Rattle.std.specs.Option.{option_map}
 use Rattle.gg_ast.specs.declared.statement.Stmt.{Stmt}
@@ -42,10 +42,6 @@ held_by modules statements = filter_map (λ (s : Stmt). held_by_kind modules s.k
 -- the instances that the module at a place holds
 abbrev pub held_at : List ModuleTree → ℕ → List Held
 held_at modules k = held_by modules (module_at modules k).statements
-
--- the module at place s holds an instance of the module at place t
-abbrev pub HoldsModule : List ModuleTree → ℕ → ℕ → Type 0
-HoldsModule modules s t = Contains (map (λ h. h.number) (held_at modules s)) t
 
 -- ---- sites
 

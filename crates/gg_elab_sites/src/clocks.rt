@@ -5,7 +5,7 @@ ghost use Rattle.gg_elab_sites.specs.Clocks.{clock_of as clock_of_term, clock_co
 ghost use Rattle.gg_elab_sites.specs.Connection.{connection_in};
 ghost use Rattle.gg_elab_sites.specs.Known.{types_of};
 ghost use Rattle.gg_elab_sites.specs.Signals.{dotted as dotted_text};
-ghost use Rattle.gg_elab_sites.specs.Views.{seen, AreDigests};
+ghost use Rattle.gg_elab_sites.specs.inside.Views.{seen, AreDigests};
 ghost use Rattle.gg_types.specs.Clocks.{clock_inputs};
 
 use crate::connections::Source;

@@ -6,7 +6,7 @@ ghost use Rattle.gg_ast.specs.declared.statement.Stmt.{Stmt};
 ghost use Rattle.gg_shape_names.specs.Scope.{written as written_text};
 ghost use Rattle.gg_bits.specs.Lists.{or_else};
 ghost use Rattle.gg_elab_sites.specs.Connection.{connection_in, connection_by};
-ghost use Rattle.gg_elab_sites.specs.Views.{connection, seen, source_at, TellsConnections};
+ghost use Rattle.gg_elab_sites.specs.inside.Views.{connection, seen, source_at, TellsConnections};
 
 use gg_ast::{Expr, Reference, Stmt, StmtKind};
 use gg_bits::{Name, Paths};

@@ -1,9 +1,11 @@
 //! The counts of a circuit and their limits.
 ghost use Rattle.std.specs.Prelude.{◌≡◌, ◌<◌, ◌^◌, None, nat_lt, if◌then◌else◌, IfOk, length, map, replicate, ◌-◌, slice_index_or, sum_by};
-ghost use Rattle.gg_graph.specs.Graph.{IsOrderOf};
-ghost use Rattle.gg_elab_sites.specs.Sites.{HoldsModule, module_at, all_sites};
-ghost use Rattle.gg_elab_sites.specs.Graph.{value_below};
-ghost use Rattle.gg_elab_sites.specs.Counts.{capped, depth_of_fields, words_of_kind, words_in, deep_in, deep_place, deep_places, deep_at, deep_from, deepest, is_reached, counts_of, excess_of, memory_or, first_excess};
+ghost use Rattle.gg_graph.specs.inside.Graph.{IsOrderOf};
+ghost use Rattle.gg_elab_sites.specs.inside.Sites.{HoldsModule};
+ghost use Rattle.gg_elab_sites.specs.Sites.{module_at, all_sites};
+ghost use Rattle.gg_elab_sites.specs.inside.Graph.{value_below};
+ghost use Rattle.gg_elab_sites.specs.Counts.{capped, depth_of_fields, words_of_kind, words_in, deep_in, deep_from, deepest, is_reached, counts_of, excess_of, memory_or, first_excess};
+ghost use Rattle.gg_elab_sites.specs.inside.Counts.{deep_place, deep_places, deep_at};
 
 use crate::pass::{Gathering, gather, gather_over};
 use gg_ast::{Circuit, Field, MemoryField, Module, Stmt, StmtKind};

@@ -3,8 +3,8 @@ ghost use Rattle.std.specs.Prelude.{◌≡◌, ◌<◌, ◌^◌, map, length, op
 ghost use Rattle.gg_elab_sites.specs.Sites.{held_by, held_by_kind, module_at};
 ghost use Rattle.gg_elab_sites.specs.Known.{types_of};
 ghost use Rattle.gg_elab_sites.specs.Signals.{own_bank, own_banks, bank_of_kind};
-ghost use Rattle.gg_elab_sites.specs.Views.{held_of, own_bank_of, IsDigest, AreDigests};
-ghost use Rattle.gg_types.specs.Memories.{bank_seen};
+ghost use Rattle.gg_elab_sites.specs.inside.Views.{held_of, own_bank_of, IsDigest, AreDigests};
+ghost use Rattle.gg_types.specs.inside.Memories.{bank_seen};
 
 use crate::connections::{Sinks, connections};
 use crate::own::{OwnSignal, own_signals};

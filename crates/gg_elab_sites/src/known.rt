@@ -1,7 +1,7 @@
 //! What the type checks say of the names of a circuit.
 ghost use Rattle.std.specs.Prelude.{◌≡◌, ◌<◌, length, option_map};
 ghost use Rattle.gg_bits.specs.Shape.{shape};
-ghost use Rattle.gg_types.specs.Typed.{sort};
+ghost use Rattle.gg_types.specs.inside.Typed.{sort};
 ghost use Rattle.gg_elab_sites.specs.Known.{types_of, value_shape};
 
 use gg_ast::Reference;

@@ -4,8 +4,8 @@ ghost use Rattle.gg_bits.specs.Shape.{shape};
 ghost use Rattle.gg_ast.specs.declared.statement.Stmt.{Stmt};
 ghost use Rattle.gg_elab_sites.specs.Known.{types_of};
 ghost use Rattle.gg_elab_sites.specs.Signals.{own, own_of_port, own_of_kind, own_signals as signals_of_module, own_stops, stop_signal, memory_signals, reader_signals, readers_signals, writer_signals};
-ghost use Rattle.gg_elab_sites.specs.Views.{own_of, own_stop_of, cause_of};
-ghost use Rattle.gg_types.specs.Memories.{bank_seen};
+ghost use Rattle.gg_elab_sites.specs.inside.Views.{own_of, own_stop_of, cause_of};
+ghost use Rattle.gg_types.specs.inside.Memories.{bank_seen};
 
 use crate::known::value_type;
 use crate::names::field_name;

@@ -1,8 +1,9 @@
 //! One pass over the modules of a circuit, each after all modules that it holds.
 ghost use Rattle.std.specs.Prelude.{◌≡◌, ℕ, suc, ◌<◌, ◌≤◌, ◌^◌, length, slice_index_or, option_to_list};
-ghost use Rattle.gg_graph.specs.Graph.{IsOrderOf};
-ghost use Rattle.gg_elab_sites.specs.Sites.{HoldsModule, held_by, held_by_kind};
-ghost use Rattle.gg_elab_sites.specs.Graph.{gathered, gathered_over, value_below};
+ghost use Rattle.gg_graph.specs.inside.Graph.{IsOrderOf};
+ghost use Rattle.gg_elab_sites.specs.inside.Sites.{HoldsModule};
+ghost use Rattle.gg_elab_sites.specs.Sites.{held_by, held_by_kind};
+ghost use Rattle.gg_elab_sites.specs.inside.Graph.{gathered, gathered_over, value_below};
 
 use gg_ast::{Circuit, Stmt, StmtKind};
 

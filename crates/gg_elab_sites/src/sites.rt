@@ -5,7 +5,7 @@ ghost use Rattle.gg_flat_tree.specs.Clocked.{clock_at};
 ghost use Rattle.gg_flat_tree.specs.Tree.{joined as joined_text};
 ghost use Rattle.gg_elab_sites.specs.Clocks.{clocks_given as clocks_of_instance};
 ghost use Rattle.gg_elab_sites.specs.Known.{types_of};
-ghost use Rattle.gg_elab_sites.specs.Views.{IsAbove, IsPlaceIn, site_of, step_of, AreDigests};
+ghost use Rattle.gg_elab_sites.specs.inside.Views.{IsAbove, IsPlaceIn, site_of, step_of, AreDigests};
 
 use crate::clocks::{clocks_given, top_clocks};
 use crate::digest::{Digest, Instance};

@@ -1,7 +1,7 @@
 //! The stops of a module.
 ghost use Rattle.std.specs.Prelude.{◌≡◌, ◌<◌, ◌+◌, ◌^◌, ◌++◌, map, length, option_to_list, IfOk};
 ghost use Rattle.gg_elab_sites.specs.Signals.{numbered, own_stops, stop_name as name_of_stop, stop_of_kind};
-ghost use Rattle.gg_elab_sites.specs.Views.{own_stop_of};
+ghost use Rattle.gg_elab_sites.specs.inside.Views.{own_stop_of};
 
 use gg_ast::{Expr, Stmt, StmtKind};
 use gg_bits::Name;

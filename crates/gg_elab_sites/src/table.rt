@@ -5,7 +5,7 @@ ghost use Rattle.gg_flat_tree.specs.Tree.{joined as joined_text};
 ghost use Rattle.gg_elab_sites.specs.Flat.{flat_signals, flat_memories};
 ghost use Rattle.gg_elab_sites.specs.IsFlat.{signals_of, memory_paths, number_of};
 ghost use Rattle.gg_elab_sites.specs.Known.{types_of};
-ghost use Rattle.gg_elab_sites.specs.Views.{site_of, AreDigests, table_signals};
+ghost use Rattle.gg_elab_sites.specs.inside.Views.{site_of, AreDigests, table_signals};
 
 use crate::digest::{Digest, OwnMemory};
 use crate::names::joined;

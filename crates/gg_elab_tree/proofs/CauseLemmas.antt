@@ -7,7 +7,8 @@ use Rattle.std.specs.Str.{bytes_eq}
 use Rattle.std.proofs.lemmas.List.{length-map, get_or-map}
 use Rattle.std.proofs.Math.Seq.{get_or-append-add}
 use Rattle.gg_bits.specs.Shape.{Shape}
-use Rattle.gg_ast.specs.Names.{IsName, is_name_byte, begins_name, AreNamesOfTerm, AreNamesOfReset, AreNamesOfKind, AreNamesOfStatement, AreNamesOfModule}
+use Rattle.gg_ast.specs.Names.{IsName, is_name_byte, begins_name}
+use Rattle.gg_ast.specs.inside.Names.{AreNamesOfTerm, AreNamesOfReset, AreNamesOfKind, AreNamesOfStatement, AreNamesOfModule}
 use Rattle.gg_ast.specs.declared.expression.Reference.TheVariants as reference
 use Rattle.gg_ast.specs.declared.module.Port.{Port}
 use Rattle.gg_ast.specs.declared.statement.Stmt.{Stmt}

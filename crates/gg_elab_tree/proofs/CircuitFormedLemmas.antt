@@ -5,7 +5,7 @@ use Rattle.gg_ast.specs.Tree.{CircuitTree, module_names}
 use Rattle.gg_flat.specs.Circuit.{FlatCircuit}
 use Rattle.gg_flat.specs.WellFormed.{IsWellFormed}
 use Rattle.gg_elab_sites.specs.Sites.{Site, module_at, all_sites, sites_from, sites_of}
-use Rattle.gg_elab_tree.specs.Fitting.{AreFitting}
+use Rattle.gg_elab_tree.specs.inside.Fitting.{AreFitting}
 use Rattle.gg_elab_sites.specs.Flat.{flat_signals, flat_memories, stop_paths}
 use Rattle.gg_elab_sites.specs.IsFlat.{IsFlatOf, IsFlat, memory_paths, top_ports}
 use Rattle.gg_elab_sites.specs.Known.{types_of}

@@ -8,7 +8,8 @@ use Rattle.std.proofs.lemmas.Simd.{map-map}
 use Rattle.gg_ast.specs.Places.{place_of}
 use Rattle.gg_ast.specs.Tree.{CircuitTree, module_names}
 use Rattle.gg_flat.specs.Circuit.{FlatCircuit, driver_at, readers_at}
-use Rattle.gg_flat_tree.specs.Clocked.{AreParentsBefore, IsClockOf, IsClocked, clock_at, clocks_from, port_clocks, through_parent, top_clocks}
+use Rattle.gg_flat_tree.specs.inside.Clocked.{AreParentsBefore}
+use Rattle.gg_flat_tree.specs.Clocked.{IsClockOf, IsClocked, clock_at, clocks_from, port_clocks, through_parent, top_clocks}
 use Rattle.gg_flat_tree.specs.Scoped.{writers_at}
 use Rattle.gg_flat_tree.specs.Tree.{InstanceTree, IsInnermost, instance_at, memory_at, stop_at}
 use Rattle.gg_flat.specs.WellFormed.{IsClock}

@@ -18,7 +18,8 @@ use Rattle.gg_ast.specs.declared.statement.StmtKind.TheVariants as says
 use Rattle.gg_ast.specs.Places.{place_of}
 use Rattle.gg_ast.specs.Tree.{ModuleTree, empty_module, names_of}
 use Rattle.gg_shape_names.specs.Along.{along, along_from}
-use Rattle.gg_shape_names.specs.Namespace.{name_by, name_by_kind, port_names, names_after, names_in}
+use Rattle.gg_shape_names.specs.Namespace.{name_by, name_by_kind, port_names, names_after}
+use Rattle.gg_shape_names.specs.inside.Namespace.{names_in}
 use Rattle.gg_shape_names.specs.Repetitions.{repetition_if, repeated_in, repeated_in_field, repeated_port, repeated_by_kind, repeated_by, repeated_declarations, repeated_module}
 use Rattle.gg_elab_sites.specs.Sites.{Held, held, held_by, held_by_kind}
 use Rattle.gg_types.specs.Memories.{Bank, bank_of}

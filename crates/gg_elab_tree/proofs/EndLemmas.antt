@@ -3,7 +3,7 @@ use Rattle.std.proofs.Common.{◌≡◌, ◌⊎◌, inl, inr, ℕ, zero, suc, �
 use Rattle.std.proofs.lemmas.Bool.{cases_lt}
 use Rattle.gg_ast.specs.Places.{place_of}
 use Rattle.gg_ast.specs.Tree.{CircuitTree, module_names}
-use Rattle.gg_flat_tree.specs.Tree.{no_tree}
+use Rattle.gg_flat_tree.specs.inside.Tree.{no_tree}
 use Rattle.gg_elab_sites.specs.Sites.{Site, site_below, sites_of}
 use Rattle.gg_elab_tree.proofs.PlaceLemmas.{within, within-some, Placed, Under, HeldFrom, held_from}
 use Rattle.gg_elab_tree.proofs.RangeLemmas.{placed-at, placed-same, placed-inside}

@@ -21,7 +21,7 @@ use Rattle.gg_flat_tree.specs.Tree.{joined}
 use Rattle.gg_flat.specs.WellFormed.{IsDataOf, MayDrive, IsReader, IsWriter, IsMemory, reader_driver, AreDriven, IsWellFormed}
 use Rattle.gg_flat.proofs.ListLemmas.{Contains-map}
 use Rattle.gg_elab_sites.specs.Sites.{Site, top_site, module_at, all_sites, sites}
-use Rattle.gg_elab_tree.specs.Fitting.{FitsDriver, AreFitting}
+use Rattle.gg_elab_tree.specs.inside.Fitting.{FitsDriver, AreFitting}
 use Rattle.gg_elab_sites.specs.Flat.{Drive, Outside, Gets, Holds, Answers, drive_of, FlatSignal, flat_signal, signals_at, flat_signals, FlatMemory, flat_memory, memories_at, flat_memories, stop_paths, stop_paths_at}
 use Rattle.gg_elab_sites.specs.IsFlat.{bindings_of, IsDrivenBy, IsMemoryOf, IsFlatOf, answer, number_of, field_number, reader_of, writer_of, is_outside, is_register, drive_at, count_before, signals_of, memory_paths, port_names}
 use Rattle.gg_elab_sites.specs.Signals.{Types, Cause, Connected, Answered, Own, own, own_of_port, own_of_kind, own_signals, own_stops, OwnStop, statement_signals, stop_signal, OwnBank, own_banks, field_name, reader_signals, writer_signals}

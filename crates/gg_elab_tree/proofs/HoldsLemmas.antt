@@ -1,6 +1,6 @@
 -- The tree of a circuit fits its flat circuit, and the flat circuit keeps to the tree's scopes and has its clocks.
 use Rattle.std.proofs.Common.{◌≡◌, ℕ, [], Some, subst}
-use Rattle.gg_ast.specs.Names.{AreNamesOfCircuit}
+use Rattle.gg_ast.specs.inside.Names.{AreNamesOfCircuit}
 use Rattle.gg_ast.specs.Places.{place_of}
 use Rattle.gg_ast.specs.Tree.{CircuitTree, module_names}
 use Rattle.gg_flat.specs.Circuit.{FlatCircuit}

@@ -3,8 +3,9 @@ use Rattle.std.proofs.Common.{◌≡◌, ℕ, List, ◌++◌, Option, sym, ap, �
 use Rattle.gg_flat_tree.specs.declared.tree.Instance.{Instance}
 use Rattle.gg_flat_tree.specs.declared.tree.MemoryInstance.{MemoryInstance}
 use Rattle.gg_flat_tree.specs.declared.tree.StopInstance.{StopInstance}
-use Rattle.gg_flat_tree.specs.Tree.{InstanceTree, no_tree}
-use Rattle.gg_elab_tree.specs.TreeParts.{with_clocks, with_instances, with_memories, with_register_clocks, with_stops}
+use Rattle.gg_flat_tree.specs.Tree.{InstanceTree}
+use Rattle.gg_flat_tree.specs.inside.Tree.{no_tree}
+use Rattle.gg_elab_tree.specs.inside.TreeParts.{with_clocks, with_instances, with_memories, with_register_clocks, with_stops}
 
 pub instances-kept : (old tree new : InstanceTree) (paths : List (List ℕ)) (instances : List Instance) → tree ≡ with_instances old tree.paths tree.instances → new ≡ with_instances tree paths instances → new ≡ with_instances old new.paths new.instances
 instances-kept old tree new paths instances h added =

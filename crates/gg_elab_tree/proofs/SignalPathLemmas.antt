@@ -4,7 +4,7 @@ use Rattle.std.specs.Prelude.{Contains, flat_map, nat_lt}
 use Rattle.std.proofs.lemmas.Bool.Decides.{nat_tests}
 use Rattle.std.proofs.lemmas.List.Elements.{Contains-append_cases}
 use Rattle.std.proofs.lemmas.Simd.{map-map}
-use Rattle.gg_ast.specs.Names.{AreNamesOfCircuit}
+use Rattle.gg_ast.specs.inside.Names.{AreNamesOfCircuit}
 use Rattle.gg_ast.specs.Places.{place_of}
 use Rattle.gg_ast.specs.Tree.{CircuitTree, module_names}
 use Rattle.gg_shape_names.specs.Repetitions.{repetitions}

@@ -5,10 +5,11 @@ use Rattle.std.specs.Prelude.{flat_map, filter_map, Contains, All}
 use Rattle.std.proofs.lemmas.Bool.{cases_lt}
 use Rattle.std.proofs.Math.Seq.{get_or-append_right}
 use Rattle.std.proofs.lemmas.List.Elements.{All-contains}
-use Rattle.gg_ast.specs.Names.{IsPortNamed, AreNamesOfStatement, AreNamesOfCircuit}
+use Rattle.gg_ast.specs.inside.Names.{IsPortNamed, AreNamesOfStatement, AreNamesOfCircuit}
 use Rattle.gg_ast.specs.declared.module.Port.{Port}
 use Rattle.gg_ast.specs.Tree.{CircuitTree}
-use Rattle.gg_shape_names.specs.Namespace.{name_by, port_names, names_in}
+use Rattle.gg_shape_names.specs.Namespace.{name_by, port_names}
+use Rattle.gg_shape_names.specs.inside.Namespace.{names_in}
 use Rattle.gg_shape_names.specs.Repetitions.{repetitions}
 use Rattle.gg_elab_sites.specs.Sites.{Site, module_at}
 use Rattle.gg_flat.proofs.ListLemmas.{filter-cases}

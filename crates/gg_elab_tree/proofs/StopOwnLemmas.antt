@@ -4,7 +4,7 @@ use Rattle.std.specs.Prelude.{flat_map, filter_map, Contains, All}
 use Rattle.std.proofs.lemmas.Bool.{cases_lt}
 use Rattle.std.proofs.Math.Seq.{get_or-append_right}
 use Rattle.std.proofs.lemmas.List.Elements.{All-contains}
-use Rattle.gg_ast.specs.Names.{AreNamesOfTerm, AreNamesOfKind, AreNamesOfStatement}
+use Rattle.gg_ast.specs.inside.Names.{AreNamesOfTerm, AreNamesOfKind, AreNamesOfStatement}
 use Rattle.gg_ast.specs.declared.statement.Stmt.{Stmt}
 use Rattle.gg_ast.specs.declared.statement.StmtKind.{StmtKind}
 use Rattle.gg_ast.specs.declared.statement.StmtKind.TheVariants as says

@@ -19,11 +19,11 @@ use Rattle.gg_elab_sites.specs.Flat.{FlatSignal, drive_of, flat_signal, input_dr
 use Rattle.gg_elab_sites.specs.Known.{types_of}
 use Rattle.gg_elab_sites.specs.Signals as written
 use Rattle.gg_elab_sites.specs.Signals.{Cause, FromOutside, Connected, Expressed, Kept, Answered, own_of_port, own_of_kind, own_stops, stop_signal, statement_signals}
-use Rattle.gg_elab_sites.specs.Views.{IsDigest, cause_of, own_of, own_stop_of, site_of}
+use Rattle.gg_elab_sites.specs.inside.Views.{IsDigest, cause_of, own_of, own_stop_of, site_of}
 use Rattle.gg_elab_sites.proofs.AmongLemmas.{in-flat_map}
 use Rattle.gg_elab_sites.proofs.FlatLemmas.{one_more, signals-more}
 use Rattle.gg_elab_tree.specs.IsTreeOf.{IsAt, clock_held, clocks_held, held_stop, held_stops, site_paths, signal_paths}
-use Rattle.gg_elab_tree.specs.TreeParts.{IsAskedFor, IsStopPart, clock_kept, stop_at_place}
+use Rattle.gg_elab_tree.specs.inside.TreeParts.{IsAskedFor, IsStopPart, clock_kept, stop_at_place}
 use Rattle.gg_elab_tree.proofs.OwnLemmas.{own_in}
 
 -- one more list at the end

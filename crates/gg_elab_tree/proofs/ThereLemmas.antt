@@ -15,7 +15,7 @@ use Rattle.gg_elab_sites.specs.Flat.{FlatSignal, flat_signal, signals_at, flat_s
 use Rattle.gg_elab_sites.specs.IsFlat.{memory_paths}
 use Rattle.gg_elab_sites.specs.Known.{types_of}
 use Rattle.gg_elab_sites.specs.Signals.{Own, OwnBank}
-use Rattle.gg_elab_sites.specs.Views.{IsDigest, outer_of, own_bank_of, site_of}
+use Rattle.gg_elab_sites.specs.inside.Views.{IsDigest, outer_of, own_bank_of, site_of}
 use Rattle.gg_elab_sites.proofs.AmongLemmas.{from-map, in-flat_map, from-flat_map}
 use Rattle.gg_elab_tree.specs.IsTreeOf.{site_paths, signal_paths, memories_of, signal_ports}
 use Rattle.gg_elab_tree.proofs.ElementLemmas.{element}

@@ -7,7 +7,8 @@ use Rattle.std.proofs.lemmas.Simd.{map-map}
 use Rattle.gg_ast.specs.Places.{place_of}
 use Rattle.gg_ast.specs.Tree.{CircuitTree, module_names}
 use Rattle.gg_flat_tree.specs.declared.tree.Instance.{Instance}
-use Rattle.gg_flat_tree.specs.Tree.{no_tree, joined}
+use Rattle.gg_flat_tree.specs.inside.Tree.{no_tree}
+use Rattle.gg_flat_tree.specs.Tree.{joined}
 use Rattle.gg_elab_sites.specs.Sites.{Site, module_at, sites_of}
 use Rattle.gg_elab_sites.specs.declared.sites.Around.{Around}
 use Rattle.gg_flat_tree.specs.declared.tree.MemoryInstance.{MemoryInstance}
@@ -16,8 +17,8 @@ use Rattle.gg_elab_sites.specs.declared.digest.OwnMemory.{OwnMemory}
 use Rattle.gg_elab_sites.specs.declared.sites.Place.{Place}
 use Rattle.gg_elab_tree.specs.IsTreeOf.{Pairwise, IsAt, IsParent, IsPortFor, IsMemoryAt, IsInstanceFor, AreInstances, held_memory, held_memories, site_paths, signal_paths, memories_of}
 use Rattle.gg_elab_sites.specs.Known.{types_of}
-use Rattle.gg_elab_tree.specs.TreeParts.{signals_to, IsHolder, IsPortAt, IsNumberAt, signals_among, IsInstanceAt, IsMemoryPart, IsHeldFor, held_at_place}
-use Rattle.gg_elab_sites.specs.Views.{own_bank_of, outer_of, site_of, IsDigest}
+use Rattle.gg_elab_tree.specs.inside.TreeParts.{signals_to, IsHolder, IsPortAt, IsNumberAt, signals_among, IsInstanceAt, IsMemoryPart, IsHeldFor, held_at_place}
+use Rattle.gg_elab_sites.specs.inside.Views.{own_bank_of, outer_of, site_of, IsDigest}
 use Rattle.gg_elab_sites.specs.Clocks.{own_clocks, port_clock}
 use Rattle.gg_elab_sites.specs.Flat.{FlatMemory, flat_memory, signals_at, flat_memories}
 use Rattle.gg_elab_sites.proofs.FlatLemmas.{memories-more, memories-kept, one_more}

@@ -8,7 +8,8 @@ use Rattle.std.proofs.lemmas.List.Elements.{Contains-append_cases, Contains-appe
 use Rattle.std.proofs.Math.Seq.{get_or-append_right}
 use Rattle.std.proofs.lemmas.List.{get_or_default}
 use Rattle.gg_bits.specs.Shape.{Shape}
-use Rattle.gg_ast.specs.Names.{IsName, IsPortNamed, AreNamesOfKind, AreNamesOfField, AreNamesOfMemoryField, AreNamesOfStatement, AreNamesOfModule}
+use Rattle.gg_ast.specs.Names.{IsName}
+use Rattle.gg_ast.specs.inside.Names.{IsPortNamed, AreNamesOfKind, AreNamesOfField, AreNamesOfMemoryField, AreNamesOfStatement, AreNamesOfModule}
 use Rattle.gg_ast.specs.declared.expression.Reference.TheVariants as reference
 use Rattle.gg_ast.specs.declared.statement.Field.{Field}
 use Rattle.gg_ast.specs.declared.statement.MemoryField.{MemoryField}

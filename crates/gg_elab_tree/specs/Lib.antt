@@ -1,4 +1,3 @@
 pub mod IsTreeOf
-pub mod TreeParts
-pub mod Fitting
 pub mod Held
+pub mod inside

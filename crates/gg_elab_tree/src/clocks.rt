@@ -3,9 +3,9 @@ ghost use Rattle.std.specs.Prelude.{◌≡◌, ◌<◌, ◌++◌, map, flat_map,
 ghost use Rattle.gg_elab_sites.specs.Sites.{module_at};
 ghost use Rattle.gg_elab_sites.specs.Flat.{flat_signals};
 ghost use Rattle.gg_elab_sites.specs.Known.{types_of};
-ghost use Rattle.gg_elab_sites.specs.Views.{IsPlaceIn, AreDigests, cause_of, site_of};
+ghost use Rattle.gg_elab_sites.specs.inside.Views.{IsPlaceIn, AreDigests, cause_of, site_of};
 ghost use Rattle.gg_elab_tree.specs.IsTreeOf.{clocks_held};
-ghost use Rattle.gg_elab_tree.specs.TreeParts.{clock_kept, with_clocks, with_register_clocks};
+ghost use Rattle.gg_elab_tree.specs.inside.TreeParts.{clock_kept, with_clocks, with_register_clocks};
 ghost use Rattle.gg_types.specs.Clocks.{clock_inputs};
 
 use crate::places::copied;

@@ -4,7 +4,7 @@ ghost use Rattle.gg_ast.specs.Places.{place_of};
 ghost use Rattle.gg_ast.specs.Tree.{module_names};
 ghost use Rattle.gg_elab_sites.specs.IsFlat.{IsFlat};
 ghost use Rattle.gg_flat.specs.WellFormed.{IsWellFormed};
-ghost use Rattle.gg_elab_tree.specs.Fitting.{AreFitting};
+ghost use Rattle.gg_elab_tree.specs.inside.Fitting.{AreFitting};
 ghost use Rattle.gg_elab_tree.specs.Held.{AreHeldOnce};
 
 use gg_flat::Piece;

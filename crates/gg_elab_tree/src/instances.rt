@@ -5,10 +5,11 @@ ghost use Rattle.gg_ast.specs.Tree.{module_names};
 ghost use Rattle.gg_elab_sites.specs.Sites.{sites_of};
 ghost use Rattle.gg_elab_sites.specs.IsFlat.{memory_paths};
 ghost use Rattle.gg_elab_sites.specs.Known.{types_of};
-ghost use Rattle.gg_elab_sites.specs.Views.{IsPlaceIn, AreDigests, site_of};
-ghost use Rattle.gg_flat_tree.specs.Tree.{joined as joined_text, no_tree};
+ghost use Rattle.gg_elab_sites.specs.inside.Views.{IsPlaceIn, AreDigests, site_of};
+ghost use Rattle.gg_flat_tree.specs.Tree.{joined as joined_text};
+ghost use Rattle.gg_flat_tree.specs.inside.Tree.{no_tree};
 ghost use Rattle.gg_elab_tree.specs.IsTreeOf.{Pairwise, AreInstances, signal_paths, memories_of};
-ghost use Rattle.gg_elab_tree.specs.TreeParts.{is_signal, signals_among, IsPortAt, IsNumberAt, IsHolder, place_paths, signals_to, IsInstanceAt, with_instances};
+ghost use Rattle.gg_elab_tree.specs.inside.TreeParts.{is_signal, signals_among, IsPortAt, IsNumberAt, IsHolder, place_paths, signals_to, IsInstanceAt, with_instances};
 
 use crate::places::{copied, place_at};
 use gg_ast::{Direction, Port};

@@ -5,10 +5,10 @@ ghost use Rattle.gg_elab_sites.specs.Clocks.{port_clock as clock_of_port};
 ghost use Rattle.gg_elab_sites.specs.Flat.{flat_memories};
 ghost use Rattle.gg_elab_sites.specs.IsFlat.{memory_paths};
 ghost use Rattle.gg_elab_sites.specs.Known.{types_of};
-ghost use Rattle.gg_elab_sites.specs.Views.{IsPlaceIn, AreDigests, site_of};
+ghost use Rattle.gg_elab_sites.specs.inside.Views.{IsPlaceIn, AreDigests, site_of};
 ghost use Rattle.gg_flat_tree.specs.Tree.{joined as joined_text};
 ghost use Rattle.gg_elab_tree.specs.IsTreeOf.{Pairwise, HeldMemory, held_memories, site_paths as paths_of_sites, memories_of};
-ghost use Rattle.gg_elab_tree.specs.TreeParts.{IsMemoryPart, IsHeldFor, held_at_place, with_memories};
+ghost use Rattle.gg_elab_tree.specs.inside.TreeParts.{IsMemoryPart, IsHeldFor, held_at_place, with_memories};
 
 use crate::places::{copied, place_at};
 use gg_bits::{AddError, Name, Names, Paths};

@@ -2,7 +2,7 @@
 ghost use Rattle.std.specs.Prelude.{◌≢◌, AllPairs};
 ghost use Rattle.gg_elab_sites.specs.IsFlat.{memory_paths};
 ghost use Rattle.gg_elab_sites.specs.Known.{types_of};
-ghost use Rattle.gg_elab_sites.specs.Views.{AreDigests};
+ghost use Rattle.gg_elab_sites.specs.inside.Views.{AreDigests};
 ghost use Rattle.gg_elab_tree.specs.IsTreeOf.{site_paths, signal_paths, memories_of};
 
 use gg_elab_sites::Digest;

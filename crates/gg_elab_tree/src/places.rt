@@ -1,7 +1,7 @@
 //! The places of paths.
 ghost use Rattle.std.specs.Prelude.{◌≡◌, ◌≢◌, IfOk, AllPairs, Contains};
 ghost use Rattle.gg_elab_tree.specs.IsTreeOf.{IsAt};
-ghost use Rattle.gg_elab_tree.specs.TreeParts.{place_paths};
+ghost use Rattle.gg_elab_tree.specs.inside.TreeParts.{place_paths};
 
 use gg_bits::{Name, Paths};
 use gg_elab_sites::{Place, add_path};

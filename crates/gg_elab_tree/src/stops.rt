@@ -2,10 +2,10 @@
 ghost use Rattle.std.specs.Prelude.{List, ◌≡◌, ◌<◌, ◌++◌, [], map, flat_map, length, IfOk, OnOk, All, Contains};
 ghost use Rattle.gg_elab_sites.specs.Sites.{module_at, sites_of};
 ghost use Rattle.gg_elab_sites.specs.Known.{types_of};
-ghost use Rattle.gg_elab_sites.specs.Views.{IsPlaceIn, AreDigests, site_of};
+ghost use Rattle.gg_elab_sites.specs.inside.Views.{IsPlaceIn, AreDigests, site_of};
 ghost use Rattle.gg_flat_tree.specs.Tree.{joined as joined_text};
 ghost use Rattle.gg_elab_tree.specs.IsTreeOf.{Pairwise, HeldStop, held_stops, site_paths as paths_of_sites, signal_paths};
-ghost use Rattle.gg_elab_tree.specs.TreeParts.{IsStopPart, IsAskedFor, stop_at_place, with_stops};
+ghost use Rattle.gg_elab_tree.specs.inside.TreeParts.{IsStopPart, IsAskedFor, stop_at_place, with_stops};
 
 use crate::places::place_at;
 use gg_bits::Paths;

@@ -5,7 +5,7 @@ ghost use Rattle.gg_ast.specs.Tree.{module_names};
 ghost use Rattle.gg_elab_sites.specs.Sites.{sites_of};
 ghost use Rattle.gg_elab_sites.specs.IsFlat.{memory_paths, top_ports};
 ghost use Rattle.gg_elab_sites.specs.Known.{types_of};
-ghost use Rattle.gg_elab_sites.specs.Views.{IsPlaceIn, AreDigests, site_of};
+ghost use Rattle.gg_elab_sites.specs.inside.Views.{IsPlaceIn, AreDigests, site_of};
 ghost use Rattle.gg_elab_tree.specs.IsTreeOf.{IsTreeOf, site_paths as paths_of_sites, signal_paths, memories_of};
 
 use crate::clocks::{add_clocks, add_register_clocks};

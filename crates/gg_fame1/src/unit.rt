@@ -2,11 +2,14 @@
 ghost use Rattle.std.specs.Prelude.{◌≡◌, ℕ, ◌+◌, ◌<◌, ◌≤◌, [], ◌∷◌, length, is_some, slice_set, IfOk};
 ghost use Rattle.gg_flat.specs.State.{IsState};
 ghost use Rattle.gg_bits.specs.Limits.{cycle_limit};
-ghost use Rattle.gg_node.specs.Machine.{machine_at, latch_at, flag_at, missing, due};
+ghost use Rattle.gg_node.specs.Machine.{machine_at, latch_at, flag_at, missing};
+ghost use Rattle.gg_node.specs.inside.Machine.{due};
 ghost use Rattle.gg_node.specs.Token.{IsToken, IsNextState};
-ghost use Rattle.gg_node.specs.Step.{MayLatch, MayFire, MayServe, MayFinish, with_latch, with_flag, with_served, finished};
-ghost use Rattle.gg_fame5.specs.Machine.{opening_unit, started_unit};
-ghost use Rattle.gg_fame5.specs.Shared.{machines_of, unset_of, IsConeDoneOf};
+ghost use Rattle.gg_node.specs.inside.Step.{MayLatch, MayFire, MayServe, MayFinish};
+ghost use Rattle.gg_node.specs.Step.{with_latch, with_flag, with_served, finished};
+ghost use Rattle.gg_fame5.specs.inside.Machine.{opening_unit};
+ghost use Rattle.gg_fame5.specs.Machine.{started_unit};
+ghost use Rattle.gg_fame5.specs.inside.Shared.{machines_of, unset_of, IsConeDoneOf};
 
 use gg_clocks::Ratio;
 use gg_fame5::Shared;
@@ -32,7 +35,7 @@ impl Drop for Unit<'_> {
 }
 
 impl<'a> Model for Unit<'a> {
-    ghost use Rattle.gg_fame5.specs.Shared.{Sharing};
+    ghost use Rattle.gg_fame5.specs.inside.Shared.{Sharing};
 
     ghost Value = { Sharing };
 

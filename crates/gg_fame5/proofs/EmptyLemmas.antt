@@ -2,7 +2,7 @@
 use Rattle.std.proofs.Common.{◌≡◌, ℕ, zero, suc, ◌+◌, ◌<◌, List, [], ◌∷◌, Option, None, Some, length, replicate, refl, ap, ◌∙◌, arith}
 use Rattle.std.specs.Prelude.{All, slice_set}
 use Rattle.gg_node.specs.Machine.{latch_at, latched_value, empty_or, first_empty}
-use Rattle.gg_fame5.specs.Lane.{one_if_empty, empty_count}
+use Rattle.gg_fame5.specs.inside.Lane.{one_if_empty, empty_count}
 
 pub all-empty : (n : ℕ) → empty_count (replicate n None) ≡ n
 all-empty zero = refl

@@ -9,7 +9,7 @@ use Rattle.gg_node.specs.Machine.{RunsPiece, needs_at}
 use Rattle.gg_node.specs.Token.{IsTokenOf, IsNextOf, AgreesOn}
 use Rattle.gg_program.specs.Programmed.{Programmed}
 use Rattle.gg_fame5.specs.Machine.{unit_machine}
-use Rattle.gg_fame5.specs.Fork.{out_of, out_count, chosen_outs, chosen_needs, forked}
+use Rattle.gg_fame5.specs.inside.Fork.{out_of, out_count, chosen_outs, chosen_needs, forked}
 
 -- what is settled doesn't look at the outs
 settled-forked : (program : Programmed) (outs : Option (List ℕ)) (state : State) (inputs signals : List ℕ) → Settled (forked program outs).circuit state inputs signals → Settled program.circuit state inputs signals

@@ -16,14 +16,15 @@ use Rattle.gg_node.specs.Machine.{latch_at, latched_value, needs_at, first_empty
 use Rattle.gg_node.proofs.EmptyLemmas.{empty-after}
 use Rattle.gg_order.specs.needs.Needs.{AreNeedsOfOuts}
 use Rattle.gg_program.specs.Programmed.{Programmed}
-use Rattle.gg_program.specs.Slots.{Slotted, NoneDone, HasInput, HasNeeded, with_input, DoneWith, inputs_in}
+use Rattle.gg_program.specs.Slots.{Slotted, NoneDone, HasInput, HasNeeded, DoneWith, inputs_in}
+use Rattle.gg_program.specs.inside.Slots.{with_input}
 use Rattle.gg_program.specs.Right.{InCycle}
 use Rattle.gg_program.proofs.SearchLemmas.{mark-more, mark-cases}
 use Rattle.gg_program.proofs.RightLemmas.{ins-once, inputs-put}
 use Rattle.gg_program.proofs.EvaluateLemmas.{values-count}
 use Rattle.gg_program.proofs.CycleLemmas.{InCycle-put}
-use Rattle.gg_fame5.specs.Fork.{out_of, out_count, AreOuts}
-use Rattle.gg_fame5.specs.Lane.{Laned, lane_machine, HaveTokens, IsLane, Hold, latched_lane, fired_lane}
+use Rattle.gg_fame5.specs.inside.Fork.{out_of, out_count, AreOuts}
+use Rattle.gg_fame5.specs.inside.Lane.{Laned, lane_machine, HaveTokens, IsLane, Hold, latched_lane, fired_lane}
 use Rattle.gg_fame5.proofs.ForkLemmas.{needs-chosen}
 use Rattle.gg_fame5.proofs.TokenLemmas.{has-token, tokens-latched, empty-latch, latched-at}
 

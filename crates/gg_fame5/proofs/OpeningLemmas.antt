@@ -7,7 +7,7 @@ use Rattle.gg_flat.specs.Clock.{Ratio}
 use Rattle.gg_flat.specs.Circuit.{FlatCircuit}
 use Rattle.gg_flat.specs.State.{State}
 use Rattle.gg_flat.specs.Streams.{state_in}
-use Rattle.gg_fame5.specs.Lane.{Laned, started_lane}
+use Rattle.gg_fame5.specs.inside.Lane.{Laned, started_lane}
 
 -- the lanes of the first n threads
 abbrev pub lanes_to : FlatCircuit → List (List ℕ) → List (List Ratio) → List State → ℕ → ℕ → List Laned

@@ -16,12 +16,13 @@ use Rattle.gg_node.specs.Machine.{Machine, machine_at, no_machine}
 use Rattle.gg_program.specs.Programmed.{Programmed}
 use Rattle.gg_program.specs.Slots.{Slotted, NoneDone}
 use Rattle.gg_program.specs.Right.{InCycle}
-use Rattle.gg_program.specs.Unset.{unset, assignments, IsConeDone}
+use Rattle.gg_program.specs.Unset.{unset, IsConeDone}
+use Rattle.gg_program.specs.inside.Unset.{assignments}
 use Rattle.gg_program.proofs.UnsetLemmas.{unset-most}
 use Rattle.gg_fame5.specs.Machine.{unit_machine, started_unit}
-use Rattle.gg_fame5.specs.Fork.{forked}
-use Rattle.gg_fame5.specs.Lane.{Laned, lane_machine, started_lane, out_signal, IsLane, Hold}
-use Rattle.gg_fame5.specs.Shared.{Sharing, no_lane, lane_at, machines_of, started_lanes, started_machines, IsSharing, unset_of, IsConeDoneOf}
+use Rattle.gg_fame5.specs.inside.Fork.{forked}
+use Rattle.gg_fame5.specs.inside.Lane.{Laned, lane_machine, started_lane, out_signal, IsLane, Hold}
+use Rattle.gg_fame5.specs.inside.Shared.{Sharing, no_lane, lane_at, machines_of, started_lanes, started_machines, IsSharing, unset_of, IsConeDoneOf}
 use Rattle.gg_fame5.proofs.LaneLemmas.{Hold-empty}
 
 pub machine_of_lane : (program : Programmed) (lanes : List Laned) (t : ℕ) → t < length lanes → machine_at (map (lane_machine program) lanes) t ≡ lane_machine program (lane_at lanes t)

@@ -16,7 +16,7 @@ use Rattle.gg_order.specs.needs.Needs.{AreNeedsOfOuts}
 use Rattle.gg_program.specs.Programmed.{Programmed}
 use Rattle.gg_program.proofs.ConeLemmas.{row-in}
 use Rattle.gg_fame5.specs.Machine.{unit_machine}
-use Rattle.gg_fame5.specs.Lane.{HaveTokens}
+use Rattle.gg_fame5.specs.inside.Lane.{HaveTokens}
 
 -- ---- latches
 

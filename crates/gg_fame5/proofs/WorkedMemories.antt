@@ -10,7 +10,8 @@ use Rattle.gg_flat.proofs.WorkedMemories.{ports, ports_order, late, late_order, 
 use Rattle.gg_node.specs.Machine.{Machine, missing, latched_values}
 use Rattle.gg_node.specs.Step.{with_latch, with_flag, finished}
 use Rattle.gg_program.specs.Programmed.{Programmed}
-use Rattle.gg_fame5.specs.Machine.{unit_machine, opening_unit}
+use Rattle.gg_fame5.specs.Machine.{unit_machine}
+use Rattle.gg_fame5.specs.inside.Machine.{opening_unit}
 
 -- a machine with these tokens put into its latches from place i on, and the flags of its first outs set
 abbrev latched : ℕ → List ℕ → Machine → Machine

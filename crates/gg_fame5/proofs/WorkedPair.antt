@@ -9,10 +9,12 @@ use Rattle.gg_flat.specs.Settled.{Settled, driver_value}
 use Rattle.gg_flat.proofs.WorkedForms.{only, both, four}
 use Rattle.gg_node.specs.Machine.{Machine, latch_at, missing, no_state}
 use Rattle.gg_node.specs.Token.{AgreesOn, IsToken}
-use Rattle.gg_node.specs.Step.{MayFire, MayFinish, with_latch, finished}
+use Rattle.gg_node.specs.inside.Step.{MayFire, MayFinish}
+use Rattle.gg_node.specs.Step.{with_latch, finished}
 use Rattle.gg_program.specs.Programmed.{Programmed}
 use Rattle.gg_order.proofs.NeedsLemmas.WorkedUnits.{unit}
-use Rattle.gg_fame5.specs.Machine.{unit_machine, opening_unit}
+use Rattle.gg_fame5.specs.Machine.{unit_machine}
+use Rattle.gg_fame5.specs.inside.Machine.{opening_unit}
 
 -- `p` needs `x` alone, `q` needs both
 abbrev pub program : Programmed

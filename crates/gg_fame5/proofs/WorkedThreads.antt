@@ -5,13 +5,13 @@ use Rattle.gg_flat.specs.Clock.{Ratio}
 use Rattle.gg_order.proofs.NeedsLemmas.ReachLemmas.{Reaches-itself}
 use Rattle.gg_order.proofs.NeedsLemmas.WorkedUnits.{unit}
 use Rattle.gg_node.specs.Machine.{Machine, machine_at, missing, edges_of, no_state}
-use Rattle.gg_node.specs.Step.{MayFire}
+use Rattle.gg_node.specs.inside.Step.{MayFire}
 use Rattle.gg_program.specs.Programmed.{Programmed}
-use Rattle.gg_program.specs.Unset.{assignments}
+use Rattle.gg_program.specs.inside.Unset.{assignments}
 use Rattle.gg_program.specs.Slots.{Slotted}
 use Rattle.gg_fame5.specs.Machine.{unit_machine}
-use Rattle.gg_fame5.specs.Lane.{Laned, lane_machine, started_lane, latched_lane, out_signal}
-use Rattle.gg_fame5.specs.Shared.{Sharing, opening_machines, unset_of, IsConeDoneOf}
+use Rattle.gg_fame5.specs.inside.Lane.{Laned, lane_machine, started_lane, latched_lane, out_signal}
+use Rattle.gg_fame5.specs.inside.Shared.{Sharing, opening_machines, unset_of, IsConeDoneOf}
 use Rattle.gg_fame5.proofs.SharedLemmas.{unset-of-most}
 use Rattle.gg_fame5.proofs.WorkedPair.{program}
 

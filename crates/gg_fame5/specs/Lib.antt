@@ -1,4 +1,2 @@
 pub mod Machine
-pub mod Fork
-pub mod Lane
-pub mod Shared
+pub mod inside

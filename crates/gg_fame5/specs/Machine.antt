@@ -4,7 +4,7 @@
 use Rattle.std.specs.Prelude.{ℕ, List, [], Option, None, Bool, false, length, replicate}
 use Rattle.gg_bits.specs.Limits.{cycle_limit}
 use Rattle.gg_flat.specs.Clock.{Ratio}
-use Rattle.gg_flat.specs.State.{State, opening}
+use Rattle.gg_flat.specs.State.{State}
 use Rattle.gg_node.specs.Machine.{RunsPiece, Machine}
 use Rattle.gg_program.specs.Programmed.{Programmed}
 
@@ -30,7 +30,3 @@ unit_machine program ratios cycle state latches flags =
 -- a unit that begins in this state, with this cycle: its latches are empty and its flags clear
 abbrev pub started_unit : Programmed → List Ratio → State → ℕ → Machine
 started_unit program ratios state cycle = unit_machine program ratios cycle state (replicate (length program.circuit.ins) None) (replicate (length program.circuit.outs) false)
-
--- a unit before its first cycle
-abbrev pub opening_unit : Programmed → List Ratio → Machine
-opening_unit program ratios = started_unit program ratios (opening program.circuit) 0

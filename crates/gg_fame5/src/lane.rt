@@ -8,11 +8,11 @@ ghost use Rattle.gg_flat.specs.Settled.{in_shapes};
 ghost use Rattle.gg_flat.specs.State.{IsState};
 ghost use Rattle.gg_node.specs.Machine.{latch_at, flag_at, missing};
 ghost use Rattle.gg_node.specs.Token.{IsToken, IsNextState};
-ghost use Rattle.gg_node.specs.Step.{MayLatch, MayFire, MayFinish};
+ghost use Rattle.gg_node.specs.inside.Step.{MayLatch, MayFire, MayFinish};
 ghost use Rattle.gg_program.specs.Slots.{AreSlots};
 ghost use Rattle.gg_program.specs.Unset.{unset, IsConeDone};
-ghost use Rattle.gg_fame5.specs.Fork.{out_of, out_count, AreOuts};
-ghost use Rattle.gg_fame5.specs.Lane.{lane_machine, out_signal, started_lane, IsLane, Hold, latched_lane, fired_lane, finished_lane};
+ghost use Rattle.gg_fame5.specs.inside.Fork.{out_of, out_count, AreOuts};
+ghost use Rattle.gg_fame5.specs.inside.Lane.{lane_machine, out_signal, started_lane, IsLane, Hold, latched_lane, fired_lane, finished_lane};
 
 use gg_bits::Ids;
 use gg_clocks::{Ratio, Timing};
@@ -58,7 +58,7 @@ impl Drop for Lane {
 
 impl Model for Lane {
     ghost use Rattle.std.specs.Prelude.{◌≡◌};
-    ghost use Rattle.gg_fame5.specs.Lane.{Laned, empty_count};
+    ghost use Rattle.gg_fame5.specs.inside.Lane.{Laned, empty_count};
 
     ghost Value = { Laned };
 

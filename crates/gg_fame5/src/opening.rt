@@ -3,8 +3,8 @@ ghost use Rattle.std.specs.Prelude.{◌≡◌, ◌<◌, ◌≤◌, ◌++◌, [],
 ghost use Rattle.std.specs.Vec.{vec_capacity};
 ghost use Rattle.gg_bits.specs.Limits.{cycle_limit};
 ghost use Rattle.gg_flat.specs.State.{IsState, opening};
-ghost use Rattle.gg_fame5.specs.Lane.{IsLane, started_lane};
-ghost use Rattle.gg_fame5.specs.Shared.{started_lanes};
+ghost use Rattle.gg_fame5.specs.inside.Lane.{IsLane, started_lane};
+ghost use Rattle.gg_fame5.specs.inside.Shared.{started_lanes};
 
 use crate::lane::Lane;
 use gg_bits::Ids;

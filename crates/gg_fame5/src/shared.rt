@@ -2,13 +2,15 @@
 ghost use Rattle.std.specs.Prelude.{◌≡◌, ◌≢◌, ℕ, ◌+◌, ◌<◌, ◌≤◌, ◌^◌, List, [], ◌∷◌, All, length, is_some, slice_set, IfOk};
 ghost use Rattle.gg_bits.specs.Limits.{cycle_limit};
 ghost use Rattle.gg_flat.specs.State.{IsState};
-ghost use Rattle.gg_node.specs.Machine.{Machine, machine_at, latch_at, flag_at, missing, due};
+ghost use Rattle.gg_node.specs.Machine.{Machine, machine_at, latch_at, flag_at, missing};
+ghost use Rattle.gg_node.specs.inside.Machine.{due};
 ghost use Rattle.gg_node.specs.Token.{IsToken, IsNextState};
-ghost use Rattle.gg_node.specs.Step.{MayLatch, MayFire, MayServe, MayFinish, with_latch, with_flag, with_served, finished};
+ghost use Rattle.gg_node.specs.inside.Step.{MayLatch, MayFire, MayServe, MayFinish};
+ghost use Rattle.gg_node.specs.Step.{with_latch, with_flag, with_served, finished};
 ghost use Rattle.gg_program.specs.Unset.{unset, IsConeDone};
 ghost use Rattle.gg_fame5.specs.Machine.{started_unit};
-ghost use Rattle.gg_fame5.specs.Lane.{lane_machine, out_signal, IsLane, latched_lane, fired_lane, finished_lane};
-ghost use Rattle.gg_fame5.specs.Shared.{lane_at, machines_of, opening_machines, started_machines, unset_of, IsConeDoneOf};
+ghost use Rattle.gg_fame5.specs.inside.Lane.{lane_machine, out_signal, IsLane, latched_lane, fired_lane, finished_lane};
+ghost use Rattle.gg_fame5.specs.inside.Shared.{lane_at, machines_of, opening_machines, started_machines, unset_of, IsConeDoneOf};
 
 use crate::lane::Lane;
 use crate::opening::{lanes_of, opening_states};
@@ -46,7 +48,7 @@ impl Drop for Shared<'_> {
 }
 
 impl<'a> Model for Shared<'a> {
-    ghost use Rattle.gg_fame5.specs.Shared.{Sharing, IsSharing};
+    ghost use Rattle.gg_fame5.specs.inside.Shared.{Sharing, IsSharing};
 
     ghost Value = { Sharing };
 

@@ -12,10 +12,12 @@ use Rattle.gg_flat.specs.declared.memory.Reader.{Reader}
 use Rattle.gg_flat.specs.declared.memory.Writer.{Writer}
 use Rattle.gg_flat.specs.declared.memory.Memory.{Memory}
 use Rattle.gg_flat.specs.Clock.{ticks}
-use Rattle.gg_flat.specs.Line.{value_at, AreTyped, HasType, HasValue}
+use Rattle.gg_flat.specs.Line.{value_at, AreTyped, HasType}
+use Rattle.gg_flat.specs.inside.Line.{HasValue}
 use Rattle.gg_flat.specs.Circuit.{FlatCircuit, signal_shapes, reader_at}
 use Rattle.gg_flat.specs.Memory.{Bank, found_word, hits, next_word, next_words, next_read, late_reads, next_reads, next_bank, next_banks, opening_bank, read_count, words_read, bank_at, AreWords, IsBank, AreBanks}
-use Rattle.gg_flat.specs.Served.{Access, ByReader, ByWriter, Brings, written, after_access}
+use Rattle.gg_flat.specs.Served.{Access, ByReader, ByWriter, written, after_access}
+use Rattle.gg_flat.specs.inside.Served.{Brings}
 use Rattle.gg_flat.specs.WellFormed.{IsWriter, IsMemory, IsWellFormed}
 use Rattle.gg_flat.proofs.TypedLemmas.{read_word-fits}
 use Rattle.gg_flat.proofs.WordLemmas.{length-next_words, next_words-here}

@@ -23,8 +23,9 @@ use Rattle.gg_flat.specs.declared.form.Part.{Part}
 use Rattle.gg_flat.specs.declared.form.Part.TheVariants.{Whole, Slice}
 use Rattle.gg_flat.specs.declared.form.Nested.TheVariants.{Parts, Cut}
 use Rattle.gg_flat.specs.declared.form.Form.TheVariants.{Lone, Apply1, Apply2, ApplyConst, Choice}
-use Rattle.gg_flat.specs.Line.{shape_at, value_at, shapes_of, op_at, HasShape, HasValue, IsLine, op_value, with_node, node_values, line_shape, line_value}
-use Rattle.gg_flat.specs.Form.{literal_of, leaf_value, part_shape, part_value, CanRead, ReadsPart, IsLeafAt, IsOperandAt, IsPartAt, IsForm, IsNested, last_op}
+use Rattle.gg_flat.specs.Line.{shape_at, value_at, shapes_of, op_at, HasShape, IsLine, op_value, with_node, node_values, line_shape, line_value}
+use Rattle.gg_flat.specs.inside.Line.{HasValue}
+use Rattle.gg_flat.specs.inside.Form.{literal_of, leaf_value, part_shape, part_value, CanRead, ReadsPart, IsLeafAt, IsOperandAt, IsPartAt, IsForm, IsNested, last_op}
 use Rattle.gg_flat.proofs.LineLemmas.{some-node, line_value-last, op_value-take}
 
 -- ---- the values of references and literals among the nodes

@@ -8,7 +8,8 @@ use Rattle.gg_bits.specs.declared.types.Val.{Val}
 use Rattle.gg_flat.specs.declared.line.Node.{Node}
 use Rattle.gg_flat.specs.declared.line.Op.{Op}
 use Rattle.gg_flat.specs.declared.line.Op.TheVariants.{Ref, Literal, One, Two, Fix, Mux}
-use Rattle.gg_flat.specs.Line.{shape_at, value_at, shapes_of, op_at, HasShape, HasValue, op_value, with_node, node_values, line_shape, line_value}
+use Rattle.gg_flat.specs.Line.{shape_at, value_at, shapes_of, op_at, HasShape, op_value, with_node, node_values, line_shape, line_value}
+use Rattle.gg_flat.specs.inside.Line.{HasValue}
 
 -- The front of the list `scratch` has the values of the first k nodes, each of its shape. The last of them is `value`.
 pub record HoldsNodes (nodes : List Node) (signals : List ℕ) (k value : ℕ) (scratch : List ℕ) : Type 0 where

@@ -21,8 +21,10 @@ use Rattle.gg_flat.specs.Memory.{Bank, read_word, found_word, hits, next_word, n
 use Rattle.gg_flat.specs.State.{connected_or, reset_or, next_register}
 use Rattle.gg_flat.specs.WellFormed.{IsRegister, IsReader, IsWriter, IsMemory, reader_driver}
 use Rattle.gg_flat.specs.Reads.{ResetNames, NextNames}
-use Rattle.gg_flat.specs.Named.{NamesRegister, NamesMemory, RegisterNamesOnly, ReaderNamesOnly, WriterNamesOnly, MemoryNamesOnly, DriverNamesOnly, MemoryFollowsOnly}
-use Rattle.gg_flat.specs.Renaming.{Renaming, same_numbers, one_by_one, renamed_reset, renamed_next, renamed_register, renamed_reader, renamed_writer, renamed_memory, renamed_driver}
+use Rattle.gg_flat.specs.inside.Named.{NamesRegister, NamesMemory, DriverNamesOnly, MemoryFollowsOnly}
+use Rattle.gg_flat.specs.Named.{RegisterNamesOnly, ReaderNamesOnly, WriterNamesOnly, MemoryNamesOnly}
+use Rattle.gg_flat.specs.Renaming.{Renaming, renamed_reset, renamed_next, renamed_register, renamed_reader, renamed_writer, renamed_memory, renamed_driver}
+use Rattle.gg_flat.specs.inside.Renaming.{same_numbers, one_by_one}
 use Rattle.gg_flat.proofs.RenamedLineLaws.{IsAlike, IsTypedThere, IsTypedBack, only-there, line-agree, next-agree, reset-agree, line-same, next-same, reset-same, line-twice, next-twice, reset-twice, next-value, reset-value, next-there, next-back, reset-there, reset-back}
 
 abbrev register_with : Register → Option Reset → Option (List Node) → Option ℕ → Register

@@ -16,12 +16,14 @@ use Rattle.gg_flat.specs.declared.memory.Memory.{Memory}
 use Rattle.gg_flat.specs.declared.piece.Signal.{Signal}
 use Rattle.gg_flat.specs.declared.piece.Driver.{Driver}
 use Rattle.gg_flat.specs.declared.piece.Driver.TheVariants.{Input, Held, MemoryWord, ReadRegister, Computed}
-use Rattle.gg_flat.specs.Line.{shape_at, value_at, shapes_of, op_at, AreTyped, HasShape, HasType, HasValue, IsLine, IsSource}
+use Rattle.gg_flat.specs.Line.{shape_at, value_at, shapes_of, op_at, AreTyped, HasShape, HasType, IsLine, IsSource}
+use Rattle.gg_flat.specs.inside.Line.{HasValue}
 use Rattle.gg_flat.specs.Circuit.{FlatCircuit, signal_shapes, register_shapes, driver_at, readers_at, latency_at, reader_at}
 use Rattle.gg_flat.specs.Memory.{read_word, read_count, bank_at}
 use Rattle.gg_flat.specs.WellFormed.{IsWellFormed, MayDrive, IsDataOf, IsReader, reader_driver}
 use Rattle.gg_flat.specs.State.{State, IsState}
-use Rattle.gg_flat.specs.Settled.{IsInputs, in_shapes, HasSource, driver_value}
+use Rattle.gg_flat.specs.Settled.{IsInputs, in_shapes, driver_value}
+use Rattle.gg_flat.specs.inside.Settled.{HasSource}
 use Rattle.gg_flat.proofs.ListLemmas.{some-item}
 
 -- a pattern of w bits is below 2 ^ w

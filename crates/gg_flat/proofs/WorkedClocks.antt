@@ -8,7 +8,7 @@ use Rattle.gg_flat.specs.declared.piece.Register.{Register}
 use Rattle.gg_flat.specs.Clock.{Ratio, edge, edges_at, ticks}
 use Rattle.gg_flat.specs.Line.{value_at}
 use Rattle.gg_flat.specs.Memory.{Bank, next_bank}
-use Rattle.gg_flat.specs.Served.{after_accesses}
+use Rattle.gg_flat.specs.inside.Served.{after_accesses}
 use Rattle.gg_flat.specs.State.{next_registers}
 use Rattle.gg_flat.proofs.WorkedCircuits.{eight, node}
 use Rattle.gg_flat.proofs.WorkedForms.{apart}

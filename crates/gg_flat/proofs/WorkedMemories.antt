@@ -16,9 +16,11 @@ use Rattle.gg_flat.specs.declared.piece.Driver.TheVariants.{Input, MemoryWord, R
 use Rattle.gg_flat.specs.declared.piece.Signal.{Signal}
 use Rattle.gg_flat.specs.Circuit.{FlatCircuit}
 use Rattle.gg_flat.specs.Memory.{Bank, address_width}
-use Rattle.gg_flat.specs.Served.{ByReader, ByWriter, due_list, after_accesses}
+use Rattle.gg_flat.specs.Served.{ByReader, ByWriter}
+use Rattle.gg_flat.specs.inside.Served.{due_list, after_accesses}
 use Rattle.gg_flat.specs.Run.{Start, column}
-use Rattle.gg_flat.specs.Along.{rows_along, rows_from}
+use Rattle.gg_flat.specs.inside.Along.{rows_along}
+use Rattle.gg_flat.specs.Along.{rows_from}
 use Rattle.gg_flat.proofs.WorkedCircuits.{uint_type, one, eight, node, value}
 
 -- ---- addresses

@@ -1,7 +1,7 @@
 -- Worked rows: what the definitions make of small circuits by hand.
 use Rattle.std.proofs.Common.{◌≡◌, ℕ, List, [], ◌∷◌, refl}
 use Rattle.gg_flat.specs.Run.{column}
-use Rattle.gg_flat.specs.Along.{rows_along}
+use Rattle.gg_flat.specs.inside.Along.{rows_along}
 use Rattle.gg_flat.proofs.WorkedCircuits.{counter, counter_order, toggle, toggle_order, loaded, loaded_order}
 
 abbrev pub counter_inputs : List (List ℕ)

@@ -6,7 +6,7 @@ use Rattle.gg_flat.specs.Line.{shape_at}
 use Rattle.gg_flat.specs.Circuit.{FlatCircuit, signal_shapes, driver_at}
 use Rattle.gg_flat.specs.State.{State}
 use Rattle.gg_flat.specs.Settled.{driver_value}
-use Rattle.gg_flat.specs.Run.{Start, later, opening_start, state_at, inputs_at}
+use Rattle.gg_flat.specs.Run.{Start, later, state_at, inputs_at}
 
 -- the values, with that of signal s replaced by its driver's value
 abbrev pub with_signal : FlatCircuit → State → List ℕ → List ℕ → ℕ → List ℕ
@@ -22,7 +22,3 @@ rows_from circuit order start columns zero = []
 rows_from circuit order start columns (suc n) =
     rows_from circuit order start columns n
     ++ settled_along circuit order (state_at circuit start (rows_from circuit order start columns n) n) (inputs_at columns (later start.cycle n)) ∷ []
-
--- the rows of n cycles from the opening
-abbrev pub rows_along : FlatCircuit → List ℕ → List (List ℕ) → ℕ → List (List ℕ)
-rows_along circuit order columns n = rows_from circuit order (opening_start circuit) columns n

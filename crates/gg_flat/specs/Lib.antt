@@ -1,6 +1,5 @@
 pub mod Clock
 pub mod Line
-pub mod Form
 pub mod Circuit
 pub mod Memory
 pub mod WellFormed
@@ -17,3 +16,4 @@ pub mod Ports
 pub mod Streams
 pub mod Named
 pub mod Renaming
+pub mod inside

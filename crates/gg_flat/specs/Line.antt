@@ -47,10 +47,6 @@ pub record IsLine (Named : ℕ → Shape → Type 0) (nodes : List Node) : Type 
 abbrev pub HasType : List Shape → ℕ → Shape → Type 0
 HasType signals s to = (s < length signals) × (shape_at signals s ≡ to)
 
--- signal s has a value among these, and it is of the shape `to`
-abbrev pub HasValue : List ℕ → ℕ → Shape → Type 0
-HasValue signals s to = (s < length signals) × Fits to (value_at signals s)
-
 -- There is a value for each of the shapes, and it has that shape.
 pub record AreTyped (shapes : List Shape) (values : List ℕ) : Type 0 where
   pub count : length values ≡ length shapes

@@ -23,7 +23,3 @@ ports_at circuit signals = filter_map (port_at circuit) signals
 -- the input ports, without clocks
 abbrev pub in_ports : FlatCircuit → List Port
 in_ports circuit = ports_at circuit circuit.ins
-
--- what it gives to the outside: the output ports, and the stops
-abbrev pub out_ports : FlatCircuit → List Port
-out_ports circuit = ports_at circuit circuit.outs

@@ -28,20 +28,6 @@ numbers_by signals registers memories = record { signals = signals; registers = 
 abbrev pub signals_by : (ℕ → ℕ) → Renaming
 signals_by to = record { signals = to; registers = λ r. r; memories = λ m. m; clocks = λ clock. clock }
 
--- the numbers that there are
-abbrev pub same_numbers : Renaming
-same_numbers = signals_by (λ s. s)
-
--- first by the one, then by the other
-abbrev pub one_by_one : Renaming → Renaming → Renaming
-one_by_one first second =
-    record {
-      signals = λ s. second.signals (first.signals s);
-      registers = λ r. second.registers (first.registers r);
-      memories = λ m. second.memories (first.memories m);
-      clocks = λ clock. second.clocks (first.clocks clock);
-    }
-
 -- ---- lines, where `to` gives the number of each signal
 
 -- an operation of a node; only a reference names a signal

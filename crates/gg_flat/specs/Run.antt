@@ -46,10 +46,6 @@ abbrev pub state_at : FlatCircuit → Start → List (List ℕ) → ℕ → Stat
 state_at circuit start rows zero = start.state
 state_at circuit start rows (suc t) = next_state (edges_at start.ratios (later start.cycle t)) circuit (state_at circuit start rows t) (row_at rows t)
 
--- the start from which the run goes on after t cycles
-abbrev pub after_rows : FlatCircuit → Start → List (List ℕ) → ℕ → Start
-after_rows circuit start rows t = record { cycle = later start.cycle t; state = state_at circuit start rows t; ratios = start.ratios }
-
 -- A run of n cycles from a start: n rows. Each is settled, in the state that the rows before it lead to and with the
 -- inputs of its cycle.
 pub record IsRunFrom (circuit : FlatCircuit) (start : Start) (columns : List (List ℕ)) (n : ℕ) (rows : List (List ℕ)) : Type 0 where

@@ -1,16 +1,14 @@
 -- A memory that serves one port after another: what it holds after the first of its accesses.
 -- Source: FIRRTL Specification, "Memories". Late readers of old words come before the writers, and those of new words
 -- after them: this is what "Memories" says of a read under a write.
-use Rattle.std.specs.Prelude.{◌≡◌, ◌⊎◌, ℕ, suc, List, [], ◌∷◌, ◌++◌, fold, take, slice_set, ⊤, Bool, ◌==◌, ◌&&◌, if◌then◌else◌}
+use Rattle.std.specs.Prelude.{ℕ, suc, List, [], ◌∷◌, ◌++◌, slice_set, Bool, ◌==◌, ◌&&◌, if◌then◌else◌}
 use Rattle.gg_flat.specs.declared.memory.UnderWrite.TheVariants.{Old, New, Undefined}
 use Rattle.gg_flat.specs.declared.memory.Latency.{Latency}
 use Rattle.gg_flat.specs.declared.memory.Latency.TheVariants.{Zero, One}
 use Rattle.gg_flat.specs.declared.memory.Reader.{Reader}
 use Rattle.gg_flat.specs.declared.memory.Writer.{Writer}
-use Rattle.gg_flat.specs.declared.memory.Memory.{Memory}
-use Rattle.gg_bits.specs.Shape.{Shape}
 use Rattle.gg_flat.specs.Clock.{ticks}
-use Rattle.gg_flat.specs.Line.{value_at, HasValue}
+use Rattle.gg_flat.specs.Line.{value_at}
 use Rattle.gg_flat.specs.Memory.{Bank, found_word}
 
 -- an access: by a late reader, or by a writer, each with its place among the memory's readers or writers
@@ -35,24 +33,6 @@ due_of (One Old) readers writers = by_readers 0 readers ++ by_writers 0 writers
 due_of (One Undefined) readers writers = by_readers 0 readers ++ by_writers 0 writers
 due_of (One New) readers writers = by_writers 0 writers ++ by_readers 0 readers
 
--- what is to be served of a memory in a cycle: the accesses, in their order
-abbrev pub due_list : Memory → List Access
-due_list memory = due_of memory.latency memory.readers memory.writers
-
--- an access names a signal: a reader's its address and its enable, a writer's all four fields
-abbrev pub AccessNames : Access → ℕ → Type 0
-AccessNames (ByReader r reader) s = (reader.addr ≡ s) ⊎ (reader.en ≡ s)
-AccessNames (ByWriter w writer) s = (writer.addr ≡ s) ⊎ (writer.en ≡ s) ⊎ (writer.word ≡ s) ⊎ (writer.mask ≡ s)
-
--- one of these accesses names a signal
-abbrev pub SomeNames : List Access → ℕ → Type 0
-SomeNames [] s = ⊥
-SomeNames (access ∷ accesses) s = AccessNames access s ⊎ SomeNames accesses s
-
--- the next bank of a memory names a signal: an access of its due list does
-abbrev pub MemoryNames : Memory → ℕ → Type 0
-MemoryNames memory s = SomeNames (due_list memory) s
-
 -- the words after one writer, in a tick with these edges; a write past the depth doesn't change them
 abbrev pub written : List Bool → List ℕ → List ℕ → Writer → List ℕ
 written edges signals words writer = if ticks edges writer.clock && (value_at signals writer.en == 1) && (value_at signals writer.mask == 1) then slice_set words (value_at signals writer.addr) (value_at signals writer.word) else words
@@ -65,12 +45,3 @@ looked edges signals words reads r reader = if ticks edges reader.clock then sli
 abbrev pub after_access : List Bool → List ℕ → Bank → Access → Bank
 after_access edges signals bank (ByReader r reader) = record { words = bank.words; reads = looked edges signals bank.words bank.reads r reader }
 after_access edges signals bank (ByWriter w writer) = record { words = written edges signals bank.words writer; reads = bank.reads }
-
--- what a memory holds after the first j accesses of its due list
-abbrev pub after_accesses : List Bool → List ℕ → Memory → Bank → ℕ → Bank
-after_accesses edges signals memory bank j = fold (after_access edges signals) bank (take j (due_list memory))
-
--- what an access writes into a memory whose words have this shape has that shape
-abbrev pub Brings : List ℕ → Shape → Access → Type 0
-Brings signals word (ByReader r reader) = ⊤
-Brings signals word (ByWriter w writer) = HasValue signals writer.word word

@@ -1,8 +1,9 @@
 //! The values of lines by their forms.
 ghost use Rattle.std.specs.Prelude.{◌≡◌, IfSome};
 ghost use Rattle.gg_bits.specs.Shape.{shape, Fits};
-ghost use Rattle.gg_flat.specs.Line.{HasValue, IsLine, line_shape, line_value};
-ghost use Rattle.gg_flat.specs.Form.{leaf_value, part_shape, part_value, CanRead, ReadsPart, IsForm, IsNested, IsNatural};
+ghost use Rattle.gg_flat.specs.inside.Line.{HasValue};
+ghost use Rattle.gg_flat.specs.Line.{IsLine, line_shape, line_value};
+ghost use Rattle.gg_flat.specs.inside.Form.{leaf_value, part_shape, part_value, CanRead, ReadsPart, IsForm, IsNested, IsNatural};
 ghost use Rattle.gg_flat.specs.declared.form.Nested.TheVariants.{Parts, Cut};
 ghost use Rattle.gg_flat.specs.declared.form.Form.TheVariants.{Lone, Apply1, Apply2, ApplyConst, Choice};
 

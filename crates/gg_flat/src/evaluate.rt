@@ -1,8 +1,9 @@
 //! The values of lines, computed without allocating.
 ghost use Rattle.std.specs.Prelude.{◌≡◌, ℕ, ◌<◌, ◌≤◌, ◌^◌, length};
 ghost use Rattle.gg_bits.specs.Shape.{shape, Fits};
-ghost use Rattle.gg_flat.specs.Line.{shape_at, value_at, shapes_of, op_at, HasShape, HasValue, IsLine, IsSource, op_value, line_shape, line_value, connected_value};
-ghost use Rattle.gg_flat.specs.Form.{IsNatural};
+ghost use Rattle.gg_flat.specs.Line.{shape_at, value_at, shapes_of, op_at, HasShape, IsLine, IsSource, op_value, line_shape, line_value, connected_value};
+ghost use Rattle.gg_flat.specs.inside.Line.{HasValue};
+ghost use Rattle.gg_flat.specs.inside.Form.{IsNatural};
 
 use crate::by_form::form_value;
 use crate::line::{Line, Node, Op};

@@ -2,7 +2,7 @@
 ghost use Rattle.std.specs.Prelude.{◌≡◌, ◌<◌, length, IfSome};
 ghost use Rattle.gg_bits.specs.Shape.{shape};
 ghost use Rattle.gg_flat.specs.Line.{line_shape};
-ghost use Rattle.gg_flat.specs.Form.{IsLeafAt, IsOperandAt, IsPartAt, IsForm, IsNatural, last_op};
+ghost use Rattle.gg_flat.specs.inside.Form.{IsLeafAt, IsOperandAt, IsPartAt, IsForm, IsNatural, last_op};
 ghost use Rattle.gg_flat.specs.declared.line.Op.TheVariants.{One, Two, Fix, Mux};
 
 use crate::evaluate::{op_of, type_of};

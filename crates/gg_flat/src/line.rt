@@ -1,6 +1,6 @@
 //! Lines: the expression of a signal's value, as a list of nodes.
 ghost use Rattle.std.specs.Prelude.{◌≡◌, [], ◌∷◌, ◌++◌, length, OnOk, OnErr};
-ghost use Rattle.gg_flat.specs.Form.{IsForm};
+ghost use Rattle.gg_flat.specs.inside.Form.{IsForm};
 
 use crate::form::Form;
 use crate::forming::form_of;
@@ -56,7 +56,7 @@ impl Drop for Line {
 impl Model for Line {
     ghost use Rattle.std.specs.Prelude.{List};
     ghost use Rattle.gg_flat.specs.declared.line.Node.{Node};
-    ghost use Rattle.gg_flat.specs.Form.{IsForm};
+    ghost use Rattle.gg_flat.specs.inside.Form.{IsForm};
 
     ghost Value = { List Node };
 

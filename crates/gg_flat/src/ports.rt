@@ -1,6 +1,7 @@
 //! `Ports`: names with their types, in port order; those that a piece gets from outside and gives to the outside, or any others.
 ghost use Rattle.std.specs.Prelude.{◌≡◌, ◌<◌, Some, IfOk, All, length};
-ghost use Rattle.gg_flat.specs.Ports.{port_at, ports_at, in_ports, out_ports};
+ghost use Rattle.gg_flat.specs.Ports.{port_at, ports_at, in_ports};
+ghost use Rattle.gg_flat.specs.inside.Ports.{out_ports};
 ghost use Rattle.gg_flat.specs.WellFormed.{IsWellFormed};
 
 use crate::piece::Piece;

@@ -3,7 +3,8 @@ use Rattle.std.proofs.Common.{◌≡◌, ◌⊎◌, inl, inr, ℕ, zero, suc, �
 use Rattle.std.proofs.lemmas.Bool.{cases_lt}
 use Rattle.std.proofs.lemmas.List.{get_or_append_left, get_or_default, get_or_push}
 use Rattle.gg_flat_tree.specs.declared.tree.Instance.{Instance}
-use Rattle.gg_flat_tree.specs.Clocked.{AreParentsBefore, clock_at, clocks_up, through_parent, top_clocks}
+use Rattle.gg_flat_tree.specs.inside.Clocked.{AreParentsBefore}
+use Rattle.gg_flat_tree.specs.Clocked.{clock_at, clocks_up, through_parent, top_clocks}
 use Rattle.gg_flat_tree.specs.Tree.{InstanceTree, instance_at}
 
 module _ (tree : InstanceTree) (before : AreParentsBefore tree) where

@@ -39,10 +39,6 @@ top_clocks tree k = clocks_up tree (length tree.instances) k
 
 -- ---- a circuit whose clocks are those of its tree
 
--- the parent of each instance is before it
-abbrev pub AreParentsBefore : InstanceTree → Type 0
-AreParentsBefore tree = (k above : ℕ) → k < length tree.instances → (instance_at tree k).parent ≡ Some above → above < k
-
 -- a number is one of a Clock input of the instance at place k, if there is one
 abbrev pub IsClockOf : InstanceTree → ℕ → Option ℕ → Type 0
 IsClockOf tree k clock = IsClock (length (instance_at tree k).clocks) clock

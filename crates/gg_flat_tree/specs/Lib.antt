@@ -2,3 +2,4 @@ pub mod Tree
 pub mod Scoped
 pub mod OutputPorts
 pub mod Clocked
+pub mod inside

@@ -19,10 +19,6 @@ pub record InstanceTree : Type 0 where
   pub register_clocks : List (Option ℕ)
   pub stops : List StopInstance
 
--- the tree without an instance
-abbrev pub no_tree : InstanceTree
-no_tree = record { paths = []; instances = []; memory_paths = []; memories = []; clocks = []; register_clocks = []; stops = [] }
-
 -- ---- paths
 
 -- the path at a place; empty past the end

@@ -1,7 +1,7 @@
 //! `Tree`: the instances of a flat circuit.
 ghost use Rattle.std.specs.Prelude.{◌≡◌, ◌≢◌, ◌<◌, ◌-◌, ◌^◌, [], ◌∷◌, ◌++◌, length, Err, OnOk, OnErr, IfOk, IfSome, IfNone, Some, slice_get, AllPairs, Contains, option_copied};
 ghost use Rattle.gg_bits.specs.declared.paths.AddError.TheVariants.{Doubled};
-ghost use Rattle.gg_flat_tree.specs.Tree.{no_tree};
+ghost use Rattle.gg_flat_tree.specs.inside.Tree.{no_tree};
 
 use gg_bits::{AddError, Ids, Items, Name, Names, Paths};
 use std::alloc::{AllocError, Global};

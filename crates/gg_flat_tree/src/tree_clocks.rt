@@ -1,6 +1,7 @@
 //! The clocks of the circuit that the Clock inputs of instances follow.
 ghost use Rattle.std.specs.Prelude.{◌≡◌, ◌<◌, ℕ, [], Some, IfOk, length, map, slice_index_or};
-ghost use Rattle.gg_flat_tree.specs.Clocked.{clock_at, through_parent, top_clocks as clocks_of_circuit, AreParentsBefore};
+ghost use Rattle.gg_flat_tree.specs.Clocked.{clock_at, through_parent, top_clocks as clocks_of_circuit};
+ghost use Rattle.gg_flat_tree.specs.inside.Clocked.{AreParentsBefore};
 
 use crate::tree::{ClockNumbers, Instance, Tree};
 use std::alloc::{AllocError, Global};

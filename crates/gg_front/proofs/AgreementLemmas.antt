@@ -14,7 +14,7 @@ use Rattle.gg_shape.specs.declared.fault.Fault.{Fault}
 use Rattle.gg_shape.specs.declared.fault.CheckFault.TheVariants.{F}
 use Rattle.gg_types.specs.Types.{type_faults}
 use Rattle.gg_front.specs.Accepted.{excess_of}
-use Rattle.gg_front.specs.Agreement.{AreAlike, Agree}
+use Rattle.gg_front.specs.inside.Agreement.{AreAlike, Agree}
 use Rattle.gg_front.specs.Fault.{HasFrontFault, IsFirstFault, OfShape, OfTypes, OfLimits, OfLoop, over_limit}
 use Rattle.gg_front.specs.declared.fault.FrontFault.{FrontFault}
 use Rattle.gg_front.specs.declared.fault.FrontFault.TheVariants as front

@@ -8,7 +8,7 @@ use Rattle.std.proofs.lemmas.List.Folds.{list_all-append}
 use Rattle.gg_ast.specs.Names.{IsName, begins_name, is_name_byte}
 use Rattle.gg_flat_tree.specs.Tree.{joined}
 use Rattle.gg_elab_sites.specs.Signals.{stop_name}
-use Rattle.gg_front.specs.Paths.{HasPathBytes, IsPath, IsSignalPath, is_path_byte, is_signal_byte}
+use Rattle.gg_front.specs.inside.Paths.{HasPathBytes, IsPath, IsSignalPath, is_path_byte, is_signal_byte}
 
 or-first : (a b : Bool) → a ≡ true → (a || b) ≡ true
 or-first true b e = refl

@@ -3,7 +3,7 @@ use Rattle.std.proofs.Common.{◌≡◌, ℕ, ◌+◌, ◌<◌, List, length, ge
 use Rattle.std.specs.Prelude.{slice_get}
 use Rattle.std.proofs.lemmas.List.{get_or_default}
 use Rattle.std.proofs.lemmas.Option.{same_Some}
-use Rattle.gg_ast.specs.Names.{AreNamesOfCircuit}
+use Rattle.gg_ast.specs.inside.Names.{AreNamesOfCircuit}
 use Rattle.gg_ast.specs.declared.module.Direction.{Direction}
 use Rattle.gg_ast.specs.declared.module.Direction.TheVariants as direction
 use Rattle.gg_ast.specs.declared.module.Port.{Port}

@@ -7,13 +7,14 @@ use Rattle.std.proofs.lemmas.Map.Keys.{IsDistinct-from_apart}
 use Rattle.std.proofs.lemmas.Map.Views.{Contains-from_any}
 use Rattle.std.proofs.lemmas.Bool.Decides.{nat_tests}
 use Rattle.std.proofs.lemmas.List.{get_or_default, get_or_past}
-use Rattle.gg_ast.specs.Names.{AreNamesOfCircuit}
+use Rattle.gg_ast.specs.inside.Names.{AreNamesOfCircuit}
 use Rattle.gg_ast.specs.Tree.{CircuitTree, ModuleTree, empty_module}
 use Rattle.gg_flat.proofs.ListLemmas.{Contains-map, Contains-cases}
-use Rattle.gg_elab_sites.specs.Sites.{Held, HoldsModule, held_at, held_by, module_at}
+use Rattle.gg_elab_sites.specs.Sites.{Held, held_at, held_by, module_at}
+use Rattle.gg_elab_sites.specs.inside.Sites.{HoldsModule}
 use Rattle.gg_elab_tree.proofs.CauseLemmas.{name-some, statements-named}
 use Rattle.gg_elab_tree.proofs.WordLemmas.{held-word}
-use Rattle.gg_graph.specs.Graph.{IsOrderOf}
+use Rattle.gg_graph.specs.inside.Graph.{IsOrderOf}
 use Rattle.gg_front.proofs.CopyLemmas.{HasSomeNames}
 use Rattle.gg_front.proofs.CopyPlaceLemmas.{AreRanked}
 

@@ -3,7 +3,8 @@ use Rattle.std.proofs.Common.{◌≡◌, ◌≢◌, ◌⊎◌, inl, inr, ℕ, ze
 use Rattle.std.specs.Prelude.{All, Contains}
 use Rattle.std.specs.List.{list_all}
 use Rattle.std.proofs.lemmas.Bool.{and_parts}
-use Rattle.gg_ast.specs.Names.{AreNamesOfCircuit, is_name_byte}
+use Rattle.gg_ast.specs.inside.Names.{AreNamesOfCircuit}
+use Rattle.gg_ast.specs.Names.{is_name_byte}
 use Rattle.gg_ast.specs.Tree.{CircuitTree}
 use Rattle.gg_read.specs.Text.{Spells}
 use Rattle.gg_flat.specs.Circuit.{FlatCircuit}
@@ -15,7 +16,7 @@ use Rattle.gg_elab_sites.specs.Known.{types_of}
 use Rattle.gg_elab_sites.specs.Signals.{own_signals, stop_name}
 use Rattle.gg_elab_sites.specs.Sites.{module_at, sites_of}
 use Rattle.gg_elab_tree.specs.IsTreeOf.{signal_paths}
-use Rattle.gg_front.specs.Paths.{HasPathBytes, IsPath, is_path_byte}
+use Rattle.gg_front.specs.inside.Paths.{HasPathBytes, IsPath, is_path_byte}
 use Rattle.gg_front.proofs.PathLemmas.{all-of, own-name, site-bytes}
 use Rattle.gg_front.proofs.SpeltLemmas.{names-spelt}
 

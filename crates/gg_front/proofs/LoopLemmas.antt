@@ -9,7 +9,8 @@ use Rattle.gg_flat.specs.Circuit.{FlatCircuit}
 use Rattle.gg_flat.specs.Reads.{ReadsInTurn, IsLoop}
 use Rattle.gg_order.specs.Design.{Ordered}
 use Rattle.gg_front.specs.Accepted.{IsSound, excess_of}
-use Rattle.gg_front.specs.Fault.{IfFirstFault, IfTellsLoop, OfLoop}
+use Rattle.gg_front.specs.inside.Fault.{IfFirstFault, IfTellsLoop}
+use Rattle.gg_front.specs.Fault.{OfLoop}
 use Rattle.gg_front.specs.declared.fault.FrontFault.{FrontFault}
 use Rattle.gg_front.specs.declared.fault.FrontFault.TheVariants as front
 

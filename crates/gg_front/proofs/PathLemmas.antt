@@ -8,7 +8,8 @@ use Rattle.gg_ast.specs.declared.module.Port.{Port}
 use Rattle.gg_ast.specs.declared.statement.Stmt.{Stmt}
 use Rattle.gg_ast.specs.declared.statement.StmtKind.{StmtKind}
 use Rattle.gg_ast.specs.declared.statement.StmtKind.TheVariants as says
-use Rattle.gg_ast.specs.Names.{IsName, IsPortNamed, AreNamesOfKind, AreNamesOfStatement, AreNamesOfCircuit}
+use Rattle.gg_ast.specs.Names.{IsName}
+use Rattle.gg_ast.specs.inside.Names.{IsPortNamed, AreNamesOfKind, AreNamesOfStatement, AreNamesOfCircuit}
 use Rattle.gg_ast.specs.Places.{place_of}
 use Rattle.gg_ast.specs.Tree.{ModuleTree, CircuitTree, module_names}
 use Rattle.gg_flat.specs.Circuit.{FlatCircuit}
@@ -25,7 +26,7 @@ use Rattle.gg_elab_sites.proofs.AmongLemmas.{MadeOf, from-map, from-flat_map, fr
 use Rattle.gg_elab_tree.specs.IsTreeOf.{IsTreeOf, site_paths, signal_paths, memories_of}
 use Rattle.gg_elab_tree.proofs.CauseLemmas.{statements-named}
 use Rattle.gg_elab_tree.proofs.WordLemmas.{BankWords, bank-word, held-word, ports-named}
-use Rattle.gg_front.specs.Paths.{HasPathBytes, IsPath, IsSignalPath}
+use Rattle.gg_front.specs.inside.Paths.{HasPathBytes, IsPath, IsSignalPath}
 use Rattle.gg_front.proofs.BytesLemmas.{dotted-path, joined-path, joined-signal, name-path, path-signal, stop-path}
 
 -- each of these signals has a path for its name

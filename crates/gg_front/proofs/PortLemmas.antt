@@ -7,7 +7,8 @@ use Rattle.std.proofs.lemmas.List.{get_or-map, get_or_append_left, get_or_defaul
 use Rattle.std.proofs.lemmas.List.Elements.{Contains-append_cases, Contains-get_or}
 use Rattle.std.proofs.lemmas.List.Folds.{flat_map-map}
 use Rattle.std.proofs.lemmas.List.Kept.{AllPairs-cons}
-use Rattle.gg_ast.specs.Names.{IsName, AreNamesOfCircuit}
+use Rattle.gg_ast.specs.Names.{IsName}
+use Rattle.gg_ast.specs.inside.Names.{AreNamesOfCircuit}
 use Rattle.gg_ast.specs.Tree.{CircuitTree}
 use Rattle.gg_flat.specs.Circuit.{FlatCircuit, readers_at}
 use Rattle.gg_flat.specs.declared.memory.Memory.{Memory}
@@ -26,7 +27,7 @@ use Rattle.gg_elab_tree.proofs.PairwiseLemmas.{Pairwise-length}
 use Rattle.gg_elab_tree.proofs.DifferLemmas.{Differ-append, Differ-none}
 use Rattle.gg_elab_tree.proofs.DriveLemmas.{Stands, stands-at}
 use Rattle.gg_read.specs.Text.{Spells}
-use Rattle.gg_front.specs.Paths.{HavePaths}
+use Rattle.gg_front.specs.inside.Paths.{HavePaths}
 use Rattle.gg_front.proofs.PathLemmas.{IsBankOf, bank-of, flat-paths, tree-memory-paths, tree-paths}
 use Rattle.gg_front.proofs.SpeltLemmas.{names-spelt}
 

@@ -10,7 +10,8 @@ use Rattle.gg_ast.specs.declared.statement.Reset.{Reset}
 use Rattle.gg_ast.specs.declared.statement.Stmt.{Stmt}
 use Rattle.gg_ast.specs.declared.statement.StmtKind.{StmtKind}
 use Rattle.gg_ast.specs.declared.statement.StmtKind.TheVariants as statement
-use Rattle.gg_ast.specs.Names.{IsName, IsPortNamed, AreNamesOfTerm, AreNamesOfReset, AreNamesOfField, AreNamesOfKind, AreNamesOfStatement, AreNamesOfModule, AreNamesOfCircuit}
+use Rattle.gg_ast.specs.Names.{IsName}
+use Rattle.gg_ast.specs.inside.Names.{IsPortNamed, AreNamesOfTerm, AreNamesOfReset, AreNamesOfField, AreNamesOfKind, AreNamesOfStatement, AreNamesOfModule, AreNamesOfCircuit}
 use Rattle.gg_ast.specs.Row.{Row, Numbered, numbered, VersionRow, CircuitRow, ModuleRow, PortRow, WireRow, NodeRow, RegisterRow, RegisterResetRow, RegisterOpenRow, ResetRow, InstanceRow, MemoryRow, FieldRow, ConnectRow, InvalidRow, SkipRow, StopRow, ReportRow}
 use Rattle.gg_ast.specs.Rows.{port_row, field_row, kind_rows, register_rows, statement_rows, rows_of_statements, module_rows, rows_of_modules}
 use Rattle.gg_ast.specs.Term.{Term}
@@ -18,7 +19,7 @@ use Rattle.gg_ast.specs.Tree.{ModuleTree, CircuitTree}
 use Rattle.gg_read_row.specs.declared.row.LineRow.{LineRow}
 use Rattle.gg_read_row.specs.declared.row.LineRow.TheVariants as line
 use Rattle.gg_read_row.specs.Forms.{SpellsRow}
-use Rattle.gg_read_row.specs.LineRows.{AreNamesOfLine}
+use Rattle.gg_read_row.specs.inside.LineRows.{AreNamesOfLine}
 use Rattle.gg_read_row.proofs.NamesSpelt.{line-named}
 use Rattle.gg_read.specs.Text.{LinePlace, AtStart, LineTokens, AreRows, Spells, is_version, without_version}
 

@@ -1,7 +1,7 @@
 -- Paths at small texts, and at near misses.
 use Rattle.std.proofs.Common.{◌≡◌, codes, refl, arith, false}
 use Rattle.std.specs.List.{list_all}
-use Rattle.gg_front.specs.Paths.{IsPath, IsSignalPath, is_path_byte, is_signal_byte}
+use Rattle.gg_front.specs.inside.Paths.{IsPath, IsSignalPath, is_path_byte, is_signal_byte}
 
 -- names, with dots between them
 signal : IsPath (codes "store.m.r.addr")

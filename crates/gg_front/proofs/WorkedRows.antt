@@ -13,7 +13,7 @@ use Rattle.gg_ast.specs.Tree.{ModuleTree, CircuitTree}
 use Rattle.gg_shape.specs.declared.fault.Fault.{Fault}
 use Rattle.gg_shape.specs.declared.fault.Fault.TheVariants.{MissingTop, Unconnected, WrongWidth, ModuleRing, OverLimit, Loop}
 use Rattle.gg_shape.specs.declared.fault.Limit.TheVariants.{Depth}
-use Rattle.gg_front.specs.Agreement.{AreAlike, Agree}
+use Rattle.gg_front.specs.inside.Agreement.{AreAlike, Agree}
 use Rattle.gg_front.specs.Fault.{IsFirstFault, OfShape}
 use Rattle.gg_front.specs.declared.fault.FrontFault.TheVariants as front
 use Rattle.gg_front.proofs.AgreementLemmas.{first-alike}

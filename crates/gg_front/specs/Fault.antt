@@ -17,8 +17,6 @@ use Rattle.gg_shape.specs.Judged.{IsShaped, RefusesFrom}
 use Rattle.gg_shape.specs.Shape.{named_faults}
 use Rattle.gg_shape.specs.declared.fault.Fault.{Fault}
 use Rattle.gg_shape.specs.declared.fault.Fault.TheVariants.{OverLimit, Loop}
-use Rattle.gg_shape.specs.declared.fault.CheckFault.{CheckFault}
-use Rattle.gg_shape.specs.declared.fault.CheckFault.TheVariants as refusals
 use Rattle.gg_shape.specs.declared.fault.CheckFault.TheVariants.{F}
 use Rattle.gg_types.specs.Types.{type_faults}
 use Rattle.gg_front.specs.Accepted.{IsSound, excess_of}
@@ -62,28 +60,3 @@ abbrev pub front_text : FrontFault → List ℕ
 front_text (front.Read fault) = reading.fault_text fault
 front_text (front.Fault fault) = circuits.fault_text fault
 front_text front.NoMemory = codes "out of memory"
-
--- ---- parts of the front end
-
--- if it is a fault of a circuit, it is that circuit's first fault; it isn't a fault of reading
-abbrev pub IfFirstFault : CircuitTree → FrontFault → Type 0
-IfFirstFault circuit (front.Read fault) = ⊥
-IfFirstFault circuit (front.Fault fault) = IsFirstFault circuit fault
-IfFirstFault circuit front.NoMemory = ⊤
-
--- if it is a fault of a circuit, it is a loop of this flat circuit; it isn't a fault of reading
-abbrev pub IfTellsLoop : FlatCircuit → FrontFault → Type 0
-IfTellsLoop flat (front.Read fault) = ⊥
-IfTellsLoop flat (front.Fault fault) = TellsLoop flat fault
-IfTellsLoop flat front.NoMemory = ⊤
-
--- the fault of a check that refuses a circuit
-abbrev pub fault_by : CheckFault → FrontFault
-fault_by (F fault) = front.Fault fault
-fault_by refusals.NoMemory = front.NoMemory
-
--- it is a fault of reading, or `NoMemory`
-abbrev pub IsUnread : List ℕ → FrontFault → Type 0
-IsUnread bytes (front.Read fault) = HasReadFault bytes fault × (fault ≢ unread.NoMemory)
-IsUnread bytes (front.Fault fault) = ⊥
-IsUnread bytes front.NoMemory = ⊤

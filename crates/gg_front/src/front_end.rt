@@ -7,13 +7,14 @@ ghost use Rattle.gg_flat.specs.Reads.{IsLoop};
 ghost use Rattle.gg_flat_tree.specs.Tree.{path_at};
 ghost use Rattle.gg_flat.specs.WellFormed.{IsWellFormed};
 ghost use Rattle.gg_part.specs.KeepsToTree.{KeepsToTree};
-ghost use Rattle.gg_order.specs.Fault.{IfLoop};
+ghost use Rattle.gg_order.specs.inside.Fault.{IfLoop};
 ghost use Rattle.gg_order.specs.Loop.{IsToldLoop};
 ghost use Rattle.gg_read.specs.Text.{Spells, HasNoFaultLine};
 ghost use Rattle.gg_shape.specs.Judged.{IsShaped};
 ghost use Rattle.gg_elab_tree.specs.Held.{AreHeldOnce};
 ghost use Rattle.gg_front.specs.Accepted.{IsSound, IsAccepted, excess_of};
-ghost use Rattle.gg_front.specs.Fault.{HasFrontFault, IfFirstFault, IfTellsLoop, IsUnread, fault_by, over_limit};
+ghost use Rattle.gg_front.specs.Fault.{HasFrontFault, over_limit};
+ghost use Rattle.gg_front.specs.inside.Fault.{IfFirstFault, IfTellsLoop, IsUnread, fault_by};
 ghost use Rattle.gg_front.specs.Meaning.{MeansDesign};
 
 use crate::copies;

@@ -8,7 +8,7 @@ ghost use Rattle.gg_read.specs.declared.text.ReadFault.{ReadFault};
 ghost use Rattle.gg_read.specs.declared.text.ReadFault.TheVariants as unread;
 ghost use Rattle.gg_shape.specs.declared.fault.Fault.{Fault};
 ghost use Rattle.gg_front.specs.Accepted.{IsAccepted, IsAcceptedText};
-ghost use Rattle.gg_front.specs.Agreement.{Agree};
+ghost use Rattle.gg_front.specs.inside.Agreement.{Agree};
 ghost use Rattle.gg_front.specs.Fault.{HasFrontFault, IsFaulty};
 ghost use Rattle.gg_front.specs.Meaning.{Means, MeansDesign, MeansOne};
 ghost use Rattle.gg_front.specs.declared.fault.FrontFault.{FrontFault};

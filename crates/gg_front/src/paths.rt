@@ -1,9 +1,9 @@
 //! Laws of the names and the paths in the circuit that a text spells. Each is the contract of a function with an empty body.
 ghost use Rattle.std.specs.Prelude.{ℕ, List, codes};
-ghost use Rattle.gg_ast.specs.Names.{AreNamesOfCircuit};
+ghost use Rattle.gg_ast.specs.inside.Names.{AreNamesOfCircuit};
 ghost use Rattle.gg_ast.specs.Tree.{CircuitTree};
 ghost use Rattle.gg_read.specs.Text.{Spells};
-ghost use Rattle.gg_front.specs.PathLaws.{TextsHavePaths, NoPathBegins};
+ghost use Rattle.gg_front.specs.inside.PathLaws.{TextsHavePaths, NoPathBegins};
 
 /// Each name in the circuit that a text spells is a name.
 pub fn spelt_names()

@@ -2,8 +2,9 @@
 use Rattle.std.proofs.Common.{◌≡◌, ◌≢◌, ℕ, zero, suc, ◌+◌, ◌<◌, List, [], ◌∷◌, ◌++◌, length, get_or, take, drop, sym, ap, ◌∙◌, subst, arith, length-append, length-drop}
 use Rattle.std.specs.Prelude.{Contains, AllPairs}
 use Rattle.std.proofs.lemmas.List.{get_or-take, get_or_default, get_or-drop, length-take, drop_more, drop-append-le}
-use Rattle.gg_graph.specs.Graph.{node_at, IsOrderOf, GoesTo, GoesRound, IsRing}
-use Rattle.gg_graph.specs.Walk.{IsChain}
+use Rattle.gg_graph.specs.Graph.{node_at, GoesTo, GoesRound, IsRing}
+use Rattle.gg_graph.specs.inside.Graph.{IsOrderOf}
+use Rattle.gg_graph.specs.inside.Walk.{IsChain}
 
 -- ---- along an order
 

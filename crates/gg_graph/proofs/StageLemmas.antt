@@ -6,7 +6,7 @@ use Rattle.std.proofs.lemmas.List.{get_or-set_same, get_or-set_other, get_or_app
 use Rattle.std.proofs.lemmas.List.Elements.{Contains-push_cases}
 use Rattle.std.proofs.lemmas.List.Sums.{sum_by-set}
 use Rattle.gg_graph.specs.Graph.{node_at}
-use Rattle.gg_graph.specs.Walk.{stage_at, weight, StandsAfter}
+use Rattle.gg_graph.specs.inside.Walk.{stage_at, weight, StandsAfter}
 use Rattle.gg_graph.specs.declared.state.Stage.{Stage}
 use Rattle.gg_graph.specs.declared.state.Stage.TheVariants.{New}
 

@@ -5,8 +5,9 @@ use Rattle.std.proofs.lemmas.Bool.{cases_lt}
 use Rattle.std.proofs.lemmas.List.{length-set, get_or-set_same, get_or-set_other, get_or_default, get_or-drop, length-drop}
 use Rattle.std.proofs.lemmas.List.Quantifiers.{all_pairs_push}
 use Rattle.std.proofs.lemmas.List.Elements.{Contains-push, Contains-append_left}
-use Rattle.gg_graph.specs.Graph.{node_at, IsOrderOf, IsRing}
-use Rattle.gg_graph.specs.Walk.{stage_at, IsChain, Walks, IsEndFrom}
+use Rattle.gg_graph.specs.Graph.{node_at, IsRing}
+use Rattle.gg_graph.specs.inside.Graph.{IsOrderOf}
+use Rattle.gg_graph.specs.inside.Walk.{stage_at, IsChain, Walks, IsEndFrom}
 use Rattle.gg_graph.specs.declared.state.Stage.{Stage}
 use Rattle.gg_graph.specs.declared.state.Stage.TheVariants.{New, Open, Done}
 use Rattle.gg_graph.proofs.RingLemmas.{IsChain-pop, GoesRound-end, once-drop}

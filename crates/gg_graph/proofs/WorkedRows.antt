@@ -4,8 +4,9 @@ use Rattle.std.specs.Prelude.{Contains, AllPairs}
 use Rattle.std.specs.List.{IsDistinct, AllByRecursion}
 use Rattle.std.proofs.lemmas.Bool.Decides.{Decides-eqb}
 use Rattle.std.proofs.lemmas.Map.Made.{AllPairs-from_IsDistinct}
-use Rattle.gg_graph.specs.Graph.{node_at, IsOrderOf, IsRing}
-use Rattle.gg_graph.specs.Lists.{HasTarget}
+use Rattle.gg_graph.specs.Graph.{node_at, IsRing}
+use Rattle.gg_graph.specs.inside.Graph.{IsOrderOf}
+use Rattle.gg_graph.specs.inside.Lists.{HasTarget}
 use Rattle.gg_graph.proofs.RingLemmas.{no_ring}
 
 -- a fact that is shown at each place of a list of one, two, four or five elements holds at every place below its length

@@ -1,18 +1,11 @@
 -- Orders and rings of a directed graph. Its nodes are the numbers below `count`, and `Edge s t` says that there is an
 -- edge from node s to node t. An order is a topological order of the graph with its edges reversed; a ring is a cycle.
 -- Source: Knuth, The Art of Computer Programming, volume 1, section 2.2.3, "Topological sorting".
-use Rattle.std.specs.Prelude.{◌≢◌, ℕ, ◌<◌, List, [], ◌∷◌, length, take, Contains, AllPairs, slice_index_or}
+use Rattle.std.specs.Prelude.{◌≢◌, ℕ, ◌<◌, List, [], ◌∷◌, length, AllPairs, slice_index_or}
 
 -- the node at a place of a list; 0 past the end
 abbrev pub node_at : List ℕ → ℕ → ℕ
 node_at nodes i = slice_index_or nodes i 0
-
--- An order: each node once, after all its targets.
-pub record IsOrderOf (Edge : ℕ → ℕ → Type 0) (count : ℕ) (order : List ℕ) : Type 0 where
-  pub nodes : (i : ℕ) → i < length order → node_at order i < count
-  pub once : AllPairs (λ a b. a ≢ b) order
-  pub every : (s : ℕ) → s < count → Contains order s
-  pub after : (i t : ℕ) → i < length order → Edge (node_at order i) t → Contains (take i order) t
 
 -- each node of a list has an edge to the next, and the last to `first`
 abbrev pub GoesTo : (ℕ → ℕ → Type 0) → ℕ → List ℕ → Type 0

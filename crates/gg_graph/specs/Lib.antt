@@ -1,4 +1,2 @@
-pub mod Fault
 pub mod Graph
-pub mod Lists
-pub mod Walk
+pub mod inside

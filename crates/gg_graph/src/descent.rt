@@ -1,8 +1,9 @@
 //! The walk.
 ghost use Rattle.std.specs.Prelude.{◌≡◌, ◌≢◌, ℕ, ◌<◌, List, [], ◌∷◌, ◌++◌, IfOk, IfErr, IfNone, option_to_list, sum_by};
-ghost use Rattle.gg_graph.specs.Fault.{IfRing};
-ghost use Rattle.gg_graph.specs.Graph.{IsOrderOf, IsRing};
-ghost use Rattle.gg_graph.specs.Walk.{stage_at, weight, StaysMet, IsUnderWay};
+ghost use Rattle.gg_graph.specs.inside.Fault.{IfRing};
+ghost use Rattle.gg_graph.specs.inside.Graph.{IsOrderOf};
+ghost use Rattle.gg_graph.specs.Graph.{IsRing};
+ghost use Rattle.gg_graph.specs.inside.Walk.{stage_at, weight, StaysMet, IsUnderWay};
 ghost use Rattle.gg_graph.specs.declared.state.Stage.TheVariants.{New};
 
 use crate::fault::WalkFault;

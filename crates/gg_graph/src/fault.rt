@@ -25,7 +25,7 @@ impl From<AllocError> for WalkFault {
 
 impl fmt::Display for WalkFault {
     ghost use Rattle.std.specs.Prelude.{Some};
-    ghost use Rattle.gg_graph.specs.Fault.{fault_text};
+    ghost use Rattle.gg_graph.specs.inside.Fault.{fault_text};
 
     ghost output = { λ fault. Some (fault_text fault) };
 

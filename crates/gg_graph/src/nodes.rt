@@ -1,6 +1,7 @@
 //! `Graph`: what a walk needs to know of a directed graph.
 ghost use Rattle.std.specs.Prelude.{◌≡◌, ℕ, ◌<◌, List, IfSome, IfNone, ◌⊎◌};
-ghost use Rattle.gg_graph.specs.Graph.{IsOrderOf, IsRing};
+ghost use Rattle.gg_graph.specs.inside.Graph.{IsOrderOf};
+ghost use Rattle.gg_graph.specs.Graph.{IsRing};
 
 /// A target of a node, and the place after it.
 #[derive(Clone, Copy, PartialEq, Eq)]

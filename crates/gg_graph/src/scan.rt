@@ -1,6 +1,6 @@
 //! The scan of a node's targets.
 ghost use Rattle.std.specs.Prelude.{◌≡◌, ◌≢◌, ℕ, ◌<◌, length, IfSome, IfNone};
-ghost use Rattle.gg_graph.specs.Walk.{stage_at};
+ghost use Rattle.gg_graph.specs.inside.Walk.{stage_at};
 ghost use Rattle.gg_graph.specs.declared.state.Stage.TheVariants.{Done};
 
 use crate::nodes::Graph;

@@ -1,6 +1,6 @@
 //! What a walk keeps.
 ghost use Rattle.std.specs.Prelude.{◌≡◌, ◌<◌, [], ◌∷◌, ◌++◌, length, replicate, IfOk, IfNone, option_to_list, Contains, slice_index_or, slice_set};
-ghost use Rattle.gg_graph.specs.Walk.{IsUnderWay, IsEndFrom};
+ghost use Rattle.gg_graph.specs.inside.Walk.{IsUnderWay, IsEndFrom};
 ghost use Rattle.gg_graph.specs.declared.state.Stage.TheVariants.{New, Open, Done};
 
 use crate::nodes::Graph;

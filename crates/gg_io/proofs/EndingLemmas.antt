@@ -5,7 +5,7 @@ use Rattle.gg_io.specs.declared.files.Shelf
 use Rattle.gg_io.specs.Said.{Said}
 use Rattle.gg_io.specs.Order.{File, IsOnly, Order, Load, Write, CanBe, IsWritten}
 use Rattle.gg_io.specs.Ends.{Ends, Loads, Puts, loads_of}
-use Rattle.gg_io.specs.Endings.{IfRefused, Prints, PrintsOrStops, PrintsText, Stops, Wants, StopsBy, EndedOn}
+use Rattle.gg_io.specs.inside.Endings.{IfRefused, Prints, PrintsOrStops, PrintsText, Stops, Wants, StopsBy, EndedOn}
 use Rattle.gg_io.specs.WentOn.{ShelfWentOn}
 use Rattle.gg_io.specs.declared.endings.Ending.{Ending}
 use Rattle.gg_io.specs.declared.endings.Ending.TheVariants.{Refused, Unwritten, NoMemory}

@@ -8,7 +8,7 @@ use Rattle.gg_io.specs.declared.output.PutFail.TheVariants as put
 use Rattle.gg_io.specs.declared.output.Sink
 use Rattle.gg_io.specs.PutFail.{HasPutCause, LeavesFront}
 use Rattle.gg_io.specs.Ends.{IsFront, StandsFront, Reports, puts_of}
-use Rattle.gg_io.specs.Endings.{Prints}
+use Rattle.gg_io.specs.inside.Endings.{Prints}
 use Rattle.gg_io.specs.WentOn.{SinkWentOn}
 use Rattle.gg_io.specs.declared.endings.Ending.{Ending}
 use Rattle.gg_io.specs.declared.endings.Ending.TheVariants.{Refused, Unwritten, NoMemory}

@@ -1,12 +1,11 @@
 -- The definitions of files, outputs and their faults that contracts name.
 pub mod Count
 pub mod LoadFail
-pub mod Memory
 pub mod PutFail
 pub mod Told
 -- What is told of any order of files.
 pub mod Ends
-pub mod Endings
 pub mod Order
 pub mod Said
 pub mod WentOn
+pub mod inside

@@ -1,8 +1,8 @@
 -- Why a put failed.
 -- Source: this program's own.
-use Rattle.std.specs.Prelude.{◌≡◌, ℕ, ◌≤◌, List, length, take, Option, Result, Ok, Err}
+use Rattle.std.specs.Prelude.{◌≡◌, ℕ, ◌≤◌, List, length, take, Option}
 use Rattle.std.specs.Io.KnownBytes.{append_known}
-use Rattle.gg_io.specs.Count.{Rose, risen}
+use Rattle.gg_io.specs.Count.{Rose}
 use Rattle.gg_io.specs.declared.output.PutFail.{PutFail}
 use Rattle.gg_io.specs.declared.output.PutFail.TheVariants.{Failed, NoMemory}
 
@@ -16,15 +16,3 @@ HasPutCause faults_before faults_now refused_before refused_now NoMemory = Rose 
 abbrev pub LeavesFront : (before now : Option (List ℕ)) (piece : List ℕ) → PutFail → Type 0
 LeavesFront before now piece Failed = (n : ℕ) × (n ≤ length piece) × (now ≡ append_known before (take n piece))
 LeavesFront before now piece NoMemory = now ≡ before
-
--- the count of faults after this answer: one more after a failure, otherwise the same
-abbrev pub faults_after_put : {T : Type 0} → Result T PutFail → ℕ → ℕ
-faults_after_put (Ok done) count = count
-faults_after_put (Err Failed) count = risen count
-faults_after_put (Err NoMemory) count = count
-
--- the count of refused puts after this answer: one more after `NoMemory`, otherwise the same
-abbrev pub refused_after_put : {T : Type 0} → Result T PutFail → ℕ → ℕ
-refused_after_put (Ok done) count = count
-refused_after_put (Err Failed) count = count
-refused_after_put (Err NoMemory) count = risen count

@@ -1,7 +1,7 @@
 //! Why a command stops, and what is then reported.
 ghost use Rattle.std.specs.Prelude.{◌≡◌, ◌++◌, IfOk, MatchResult, codes, decimal, string_bytes};
 ghost use Rattle.gg_io.specs.Said.{line_of, cannot_load, is_over};
-ghost use Rattle.gg_io.specs.Endings.{IfRefused, said_of};
+ghost use Rattle.gg_io.specs.inside.Endings.{IfRefused, said_of};
 ghost use Rattle.gg_io.specs.declared.endings.Ending.TheVariants.{NoMemory};
 
 use itoa::Buffer;

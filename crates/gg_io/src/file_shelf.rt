@@ -2,7 +2,8 @@
 ghost use Rattle.std.specs.Prelude.{◌≡◌, ℕ, ◌-◌, ◌+◌, ◌^◌, ◌<◌, ◌≤◌, List, Option, None, length, IfOk, IfErr, IfSome};
 ghost use Rattle.std.specs.Io.KnownBytes.{Consumes};
 ghost use Rattle.gg_io.specs.Told.{Untold};
-ghost use Rattle.gg_io.specs.LoadFail.{HasLoadCause, IsFault, IsFaultOrOver, faults_after_load, cuts_after_load};
+ghost use Rattle.gg_io.specs.LoadFail.{HasLoadCause};
+ghost use Rattle.gg_io.specs.inside.LoadFail.{IsFault, IsFaultOrOver, faults_after_load, cuts_after_load};
 
 use crate::counts::raise;
 use crate::files::{LoadFail, Shelf};

@@ -2,7 +2,7 @@
 ghost use Rattle.std.specs.Prelude.{◌-◌, ◌^◌, ◌<◌, ◌≤◌, IfOk, IfErr, length};
 ghost use Rattle.gg_io.specs.Count.{Rose};
 ghost use Rattle.gg_io.specs.Told.{CanHold};
-ghost use Rattle.gg_io.specs.Endings.{IfRefused};
+ghost use Rattle.gg_io.specs.inside.Endings.{IfRefused};
 ghost use Rattle.gg_io.specs.Order.{LoadReports};
 ghost use Rattle.gg_io.specs.WentOn.{ShelfWentOn};
 

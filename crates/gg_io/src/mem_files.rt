@@ -1,6 +1,6 @@
 //! Files in memory.
 ghost use Rattle.std.specs.Prelude.{◌≡◌, ◌≢◌, ℕ, List, Some, OnOk, OnErr};
-ghost use Rattle.gg_io.specs.Memory.{bytes_under};
+ghost use Rattle.gg_io.specs.inside.Memory.{bytes_under};
 
 use std::alloc::{AllocError, Global};
 use std::collections::BTreeMap;

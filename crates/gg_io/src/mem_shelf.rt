@@ -2,8 +2,9 @@
 ghost use Rattle.std.specs.Prelude.{◌≡◌, ◌-◌, ◌^◌, ◌<◌, ◌≤◌, ◌↔◌, ◌⊎◌, length, IfOk, IfErr, IsErrOf, Contains};
 ghost use Rattle.gg_io.specs.Count.{risen};
 ghost use Rattle.gg_io.specs.Told.{CanHold, Missing, Holds};
-ghost use Rattle.gg_io.specs.LoadFail.{HasLoadCause, faults_after_load, cuts_after_load};
-ghost use Rattle.gg_io.specs.Memory.{bytes_under, told_of, told_or_empty};
+ghost use Rattle.gg_io.specs.LoadFail.{HasLoadCause};
+ghost use Rattle.gg_io.specs.inside.LoadFail.{faults_after_load, cuts_after_load};
+ghost use Rattle.gg_io.specs.inside.Memory.{bytes_under, told_of, told_or_empty};
 
 use crate::counts::raise;
 use crate::files::{LoadFail, Shelf};

@@ -2,8 +2,9 @@
 ghost use Rattle.std.specs.Prelude.{◌≡◌, [], ◌≤◌, ◌++◌, Some, OnOk, IfErr, IsErrOf, IsNone, IsSomeAnd, take};
 ghost use Rattle.std.specs.Io.KnownBytes.{append_known};
 ghost use Rattle.gg_io.specs.Count.{risen};
-ghost use Rattle.gg_io.specs.PutFail.{HasPutCause, LeavesFront, faults_after_put, refused_after_put};
-ghost use Rattle.gg_io.specs.Memory.{taken_before_failure};
+ghost use Rattle.gg_io.specs.PutFail.{HasPutCause, LeavesFront};
+ghost use Rattle.gg_io.specs.inside.PutFail.{faults_after_put, refused_after_put};
+ghost use Rattle.gg_io.specs.inside.Memory.{taken_before_failure};
 
 use crate::counts::raise;
 use crate::output::{PutFail, Sink};

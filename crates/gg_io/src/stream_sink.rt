@@ -1,7 +1,8 @@
 //! The streams of the system.
 ghost use Rattle.std.specs.Prelude.{◌≡◌, ℕ, ◌≤◌, None, ◌++◌, length, take, IfOk, OnOk, OnErr, IfErr};
 ghost use Rattle.std.specs.Io.KnownBytes.{Appends};
-ghost use Rattle.gg_io.specs.PutFail.{HasPutCause, faults_after_put};
+ghost use Rattle.gg_io.specs.PutFail.{HasPutCause};
+ghost use Rattle.gg_io.specs.inside.PutFail.{faults_after_put};
 
 use crate::counts::raise;
 use crate::output::{PutFail, Sink};

@@ -1,6 +1,6 @@
 //! Writing of text.
 ghost use Rattle.std.specs.Prelude.{◌≡◌};
-ghost use Rattle.gg_io.specs.Endings.{PrintsOn, said_of};
+ghost use Rattle.gg_io.specs.inside.Endings.{PrintsOn, said_of};
 ghost use Rattle.gg_io.specs.Ends.{Reports, puts_of};
 ghost use Rattle.gg_io.specs.WentOn.{SinkWentOn};
 

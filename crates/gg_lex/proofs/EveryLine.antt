@@ -6,10 +6,11 @@ use Rattle.std.specs.Char.{is_ascii_digit}
 use Rattle.std.specs.Str.{bytes_eq}
 use Rattle.std.proofs.lemmas.Bool.{cases_Bool, cases_eq, cases_lt}
 use Rattle.std.proofs.lemmas.Slice.Eq.{bytes_eq-Decides}
-use Rattle.gg_lex.specs.Bytes.{starts_word, begins_number, is_digit_behind}
+use Rattle.gg_lex.specs.Bytes.{starts_word, is_digit_behind}
+use Rattle.gg_lex.specs.inside.Bytes.{begins_number}
 use Rattle.gg_lex.specs.Tokens.{IsFirst, BeginsNoToken, IsDigits, IsDecimal, AreDigitsBehind, IsRadixNumber, IsNumber, spelling, token_of}
-use Rattle.gg_lex.specs.Fronts.{FindsFront, radix_head, FindsQuote, LeadsSymbol, IsFrontOfTwo}
-use Rattle.gg_lex.specs.Ends.{FindsBracket, FindsInfo}
+use Rattle.gg_lex.specs.inside.Fronts.{FindsFront, radix_head, FindsQuote, LeadsSymbol, IsFrontOfTwo}
+use Rattle.gg_lex.specs.inside.Ends.{FindsBracket, FindsInfo}
 use Rattle.gg_lex.specs.Lines.{after_blanks, OpensInfo, ClosesBehind, IsComment, IsEnd, Begins, Lexes}
 use Rattle.gg_lex.specs.declared.token.Tok.{Tok}
 use Rattle.gg_lex.specs.declared.token.TokenKind.{TokenKind}

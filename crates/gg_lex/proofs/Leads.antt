@@ -3,9 +3,10 @@ use Rattle.std.proofs.Common.{◌≡◌, ℕ, zero, suc, ◌<◌, ◌≤◌, tru
 use Rattle.std.specs.Char.{is_ascii_digit}
 use Rattle.std.proofs.lemmas.Bool.{false≢true, both_ways, or_right, or_left, eq-eqb, cases_eq, cases_lt, MatchBool-at_false, ne_eqb}
 use Rattle.std.proofs.lemmas.Bool.Decides.{nat_tests}
-use Rattle.gg_lex.specs.Bytes.{starts_word, begins_number}
+use Rattle.gg_lex.specs.Bytes.{starts_word}
+use Rattle.gg_lex.specs.inside.Bytes.{begins_number}
 use Rattle.gg_lex.specs.Tokens.{IsToken, IsFirst, BeginsNoToken, IsDecimal, IsRadixNumber, IsNumber, spelling}
-use Rattle.gg_lex.specs.Fronts.{IsLongest, HasNoFront, LeadsSymbol, IsFrontOfTwo}
+use Rattle.gg_lex.specs.inside.Fronts.{IsLongest, HasNoFront, LeadsSymbol, IsFrontOfTwo}
 use Rattle.gg_lex.proofs.Numbers.{radix_long}
 use Rattle.gg_lex.specs.declared.token.TokenKind.{TokenKind}
 use Rattle.gg_lex.specs.declared.token.TokenKind.TheVariants as kinds

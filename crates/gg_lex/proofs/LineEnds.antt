@@ -4,7 +4,7 @@ use Rattle.std.specs.Prelude.{slice_get}
 use Rattle.std.proofs.lemmas.Bool.{cases_order}
 use Rattle.std.proofs.lemmas.Option.{slice_get_within}
 use Rattle.gg_lex.specs.Lines.{after_blanks, OpensInfo, ClosesBehind, IsInfo, IsComment, IsEndWith, IsEnd}
-use Rattle.gg_lex.specs.Ends.{FindsBracket, FindsInfo}
+use Rattle.gg_lex.specs.inside.Ends.{FindsBracket, FindsInfo}
 
 pub IsInfo-within : (bs : List ℕ) (n : ℕ) → IsInfo bs n → (3 ≤ n) × (n ≤ length bs)
 IsInfo-within bs n info =

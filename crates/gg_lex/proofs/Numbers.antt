@@ -9,7 +9,7 @@ use Rattle.std.proofs.lemmas.Option.{same_Some}
 use Rattle.std.proofs.lemmas.List.Sums.{prefix_len-le-length}
 use Rattle.gg_lex.specs.Bytes.{is_digit_behind}
 use Rattle.gg_lex.specs.Tokens.{IsDecimal, IsDigits, AreDigitsBehind, IsRadixNumber, IsNumber}
-use Rattle.gg_lex.specs.Fronts.{IsLongest, HasNoFront, FindsFront, radix_head}
+use Rattle.gg_lex.specs.inside.Fronts.{IsLongest, HasNoFront, FindsFront, radix_head}
 use Rattle.gg_lex.proofs.Runs.{length-le-prefix_len, AllPass-take-prefix_len, AllPass-head}
 
 -- ---- digits, by a test of each

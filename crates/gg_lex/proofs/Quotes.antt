@@ -6,7 +6,7 @@ use Rattle.std.proofs.lemmas.Bool.{ne_eqb, MatchBool-at_false, cases_order}
 use Rattle.std.proofs.lemmas.List.{drop_more, take_more, take_at, get_or_at}
 use Rattle.std.proofs.lemmas.Option.{slice_get-get_or, slice_get_within, get_or_from_slice_get}
 use Rattle.gg_lex.specs.Tokens.{IsQuoted, IsText}
-use Rattle.gg_lex.specs.Fronts.{IsLongest, HasNoFront, EndsQuoted, FindsQuote}
+use Rattle.gg_lex.specs.inside.Fronts.{IsLongest, HasNoFront, EndsQuoted, FindsQuote}
 
 -- both cases of a fact that depends on a test may be replaced by what follows from them
 MatchBool-map : (t : Bool) (P Q R S : Type 0) → (P → R) → (Q → S) → MatchBool t P Q → MatchBool t R S

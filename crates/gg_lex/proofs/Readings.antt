@@ -4,10 +4,11 @@ use Rattle.std.specs.Prelude.{slice_get}
 use Rattle.std.specs.List.{prefix_len}
 use Rattle.std.proofs.lemmas.Bool.{both_ways}
 use Rattle.std.proofs.lemmas.List.{take_all}
-use Rattle.gg_lex.specs.Bytes.{is_blank, starts_word, begins_number}
+use Rattle.gg_lex.specs.Bytes.{is_blank, starts_word}
+use Rattle.gg_lex.specs.inside.Bytes.{begins_number}
 use Rattle.gg_lex.specs.Tokens.{IsToken, IsFirst, BeginsNoToken, spelling, token_of}
 use Rattle.gg_lex.specs.Lines.{after_blanks, IsComment, IsEnd, Begins, Lexes}
-use Rattle.gg_lex.specs.NextToken.{EndsOrFails}
+use Rattle.gg_lex.specs.inside.NextToken.{EndsOrFails}
 use Rattle.gg_lex.specs.declared.token.Tok.{Tok}
 use Rattle.gg_lex.specs.declared.token.TokenKind.{TokenKind}
 use Rattle.gg_lex.specs.declared.token.TokenKind.TheVariants as kinds

@@ -6,7 +6,7 @@ use Rattle.std.specs.List.{prefix_len, AllPass}
 use Rattle.std.proofs.lemmas.List.Sums.{prefix_len-le-length}
 use Rattle.gg_lex.specs.Bytes.{starts_word, is_word_byte, is_tail_byte}
 use Rattle.gg_lex.specs.Tokens.{IsWord}
-use Rattle.gg_lex.specs.Fronts.{IsLongest}
+use Rattle.gg_lex.specs.inside.Fronts.{IsLongest}
 use Rattle.gg_lex.proofs.Runs.{prefix_len-pass, prefix_len-fail, AllPass-head, AllPass-tail, length-le-prefix_len, AllPass-take-prefix_len}
 
 -- how many bytes of a word are at the front, if its first byte is left out

@@ -7,8 +7,9 @@ use Rattle.std.specs.List.{prefix_len, list_any}
 use Rattle.std.specs.Str.{bytes_eq}
 use Rattle.std.proofs.lemmas.Bool.{false≢true, both_ways, eqb-true, eqb-false}
 use Rattle.std.proofs.Math.Bool.{or-false}
-use Rattle.gg_lex.specs.Bytes.{quote, minus, starts_word, begins_number, is_word_byte, is_tail_byte, is_digit_behind}
-use Rattle.gg_lex.specs.Fronts.{IsLongest, HasNoFront, radix_head, LeadsSymbol, IsFrontOfTwo}
+use Rattle.gg_lex.specs.Bytes.{quote, minus, starts_word, is_word_byte, is_tail_byte, is_digit_behind}
+use Rattle.gg_lex.specs.inside.Bytes.{begins_number}
+use Rattle.gg_lex.specs.inside.Fronts.{IsLongest, HasNoFront, radix_head, LeadsSymbol, IsFrontOfTwo}
 use Rattle.gg_lex.specs.Lines.{after_blanks, IsComment, AreTokens}
 use Rattle.gg_lex.specs.Tokens.{IsFirst, IsDigits, IsDecimal, IsRadixNumber, IsNumber, spelling}
 use Rattle.gg_lex.specs.declared.token.TokenKind.TheVariants as kinds

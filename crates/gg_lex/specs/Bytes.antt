@@ -2,8 +2,6 @@
 -- identifiers, integer and string literals, comments).
 use Rattle.std.specs.Prelude.{ℕ, Bool, false, ◌||◌, ◌&&◌, ◌==◌, nat_lt, if◌then◌else◌}
 use Rattle.std.specs.Char.{is_ascii_alphabetic, is_ascii_alphanumeric, is_ascii_digit, is_ascii_hexdigit}
-use Rattle.gg_lex.specs.declared.bytes.Class.{Class}
-use Rattle.gg_lex.specs.declared.bytes.Class.TheVariants.{Blank, WordByte, TailByte, BinaryDigit, OctalDigit, DecimalDigit, HexDigit}
 
 -- The characters, other than letters and digits, by which classes, texts, comments and file information are defined,
 -- with their ASCII codes.
@@ -62,10 +60,6 @@ is_blank b = b == space || b == tab
 abbrev pub starts_word : ℕ → Bool
 starts_word b = is_ascii_alphabetic b || b == underscore
 
--- `-` or a digit, with which a number may begin
-abbrev pub begins_number : ℕ → Bool
-begins_number b = b == minus || is_ascii_digit b
-
 -- 0 or 1
 abbrev pub is_binary_digit : ℕ → Bool
 is_binary_digit b = b == 48 || b == 49
@@ -88,13 +82,3 @@ is_word_byte b = is_ascii_alphanumeric b || b == underscore || b == dollar
 -- a letter or `-`, which may be in a word's tail, as in `read-under-write`
 abbrev pub is_tail_byte : ℕ → Bool
 is_tail_byte b = is_ascii_alphabetic b || b == minus
-
--- the bytes of which a run is made, by its class
-abbrev pub is_in_class : Class → ℕ → Bool
-is_in_class Blank = is_blank
-is_in_class WordByte = is_word_byte
-is_in_class TailByte = is_tail_byte
-is_in_class BinaryDigit = is_binary_digit
-is_in_class OctalDigit = is_octal_digit
-is_in_class DecimalDigit = is_ascii_digit
-is_in_class HexDigit = is_ascii_hexdigit

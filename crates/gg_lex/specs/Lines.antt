@@ -6,8 +6,6 @@ use Rattle.gg_lex.specs.Bytes.{semicolon, at_sign, open_bracket, backslash, clos
 use Rattle.gg_lex.specs.Tokens.{IsFirst, BeginsNoToken, token_of}
 use Rattle.gg_lex.specs.declared.token.TokenKind.{TokenKind}
 use Rattle.gg_lex.specs.declared.token.Tok.{Tok}
-use Rattle.gg_lex.specs.declared.token.LexFault.{LexFault}
-use Rattle.gg_lex.specs.declared.token.LexFault.TheVariants.{At, NoMemory}
 
 -- the bytes without the blanks at their front
 abbrev pub after_blanks : List ℕ → List ℕ
@@ -66,13 +64,3 @@ pub record FailsAt (ts : List Tok) (line : List ℕ) (place : ℕ) : Type 0 wher
 abbrev pub Lexes : List ℕ → List Tok → Option ℕ → Type 0
 Lexes line ts None = AreTokens ts line
 Lexes line ts (Some place) = FailsAt ts line place
-
--- why a line has no tokens: it fails at the place that is returned; `NoMemory` has no cause in the line
-abbrev pub HasCause : LexFault → List ℕ → Type 0
-HasCause (At place) line = (ts : List Tok) × FailsAt ts line place
-HasCause NoMemory line = Unit {0}
-
--- the fault is that the line fails at this place, or an allocation failed
-abbrev pub IsFaultAt : LexFault → ℕ → Type 0
-IsFaultAt (At place) expected = place ≡ expected
-IsFaultAt NoMemory expected = Unit {0}

@@ -1,8 +1,9 @@
 //! Classes of bytes, and the run of one class at the front of some bytes.
 ghost use Rattle.std.specs.Prelude.{◌≡◌, ◌≤◌, length};
 ghost use Rattle.std.specs.List.{prefix_len};
-ghost use Rattle.gg_lex.specs.Bytes.{is_in_class, starts_word, begins_number};
-ghost use Rattle.gg_lex.specs.Fronts.{TellsDigits};
+ghost use Rattle.gg_lex.specs.inside.Bytes.{is_in_class, begins_number};
+ghost use Rattle.gg_lex.specs.Bytes.{starts_word};
+ghost use Rattle.gg_lex.specs.inside.Fronts.{TellsDigits};
 
 // A class of bytes. A run is made of bytes of one class.
 #[derive(Clone, Copy, PartialEq, Eq)]

@@ -1,7 +1,7 @@
 //! What may follow the last token of a line: file information, and a comment.
 ghost use Rattle.std.specs.Prelude.{◌≡◌, ◌+◌, ◌<◌, ◌↔◌, length, IsTrue};
 ghost use Rattle.gg_lex.specs.Lines.{IsEnd, IsComment, OpensInfo, ClosesBehind, after_blanks};
-ghost use Rattle.gg_lex.specs.Ends.{FindsBracket, FindsInfo};
+ghost use Rattle.gg_lex.specs.inside.Ends.{FindsBracket, FindsInfo};
 
 use crate::bytes::{Class, run_len};
 

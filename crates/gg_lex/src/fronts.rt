@@ -1,8 +1,9 @@
 //! The first token of some bytes: its kind and length.
 ghost use Rattle.std.specs.Prelude.{◌≡◌, ◌<◌, length, slice_index, IfSome, IfNone, IsTrue};
-ghost use Rattle.gg_lex.specs.Bytes.{starts_word, begins_number};
+ghost use Rattle.gg_lex.specs.Bytes.{starts_word};
+ghost use Rattle.gg_lex.specs.inside.Bytes.{begins_number};
 ghost use Rattle.gg_lex.specs.Tokens.{IsFirst};
-ghost use Rattle.gg_lex.specs.Fronts.{FindsToken, LeadsSymbol, IsFrontOfTwo};
+ghost use Rattle.gg_lex.specs.inside.Fronts.{FindsToken, LeadsSymbol, IsFrontOfTwo};
 
 use crate::bytes::{begins_number, starts_word};
 use crate::longest::{number_len, text_len, word_len};

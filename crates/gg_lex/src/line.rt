@@ -1,8 +1,9 @@
 //! The tokens of a line.
 ghost use Rattle.std.specs.Prelude.{◌≡◌, ℕ, ◌-◌, ◌≤◌, List, take, drop, Option, length, IfOk, IfErr, IfSome, MatchOption, MatchResult};
 ghost use Rattle.gg_lex.specs.Tokens.{IsToken, IsText, token_of, BeginsNoToken};
-ghost use Rattle.gg_lex.specs.Lines.{Lexes, AreTokens, FailsAt, HasCause, IsFaultAt, after_blanks};
-ghost use Rattle.gg_lex.specs.NextToken.{IsNextToken, EndsOrFails};
+ghost use Rattle.gg_lex.specs.Lines.{Lexes, AreTokens, FailsAt, after_blanks};
+ghost use Rattle.gg_lex.specs.inside.Lines.{HasCause, IsFaultAt};
+ghost use Rattle.gg_lex.specs.inside.NextToken.{IsNextToken, EndsOrFails};
 
 use crate::bytes::{Class, run_len};
 use crate::ends::is_end;

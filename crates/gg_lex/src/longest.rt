@@ -2,7 +2,7 @@
 ghost use Rattle.std.specs.Prelude.{◌≡◌, ◌<◌, length, slice_index, IsTrue, IfSome, IfNone, ◌≤◌, ◌+◌};
 ghost use Rattle.gg_lex.specs.Bytes.{starts_word};
 ghost use Rattle.gg_lex.specs.Tokens.{IsWord, IsDecimal, AreDigitsBehind, IsRadixNumber, IsNumber, IsText};
-ghost use Rattle.gg_lex.specs.Fronts.{IsLongest, IsRunOf, FindsFront, FindsQuote, radix_head};
+ghost use Rattle.gg_lex.specs.inside.Fronts.{IsLongest, IsRunOf, FindsFront, FindsQuote, radix_head};
 
 use crate::bytes::{Class, digits_behind, run_len};
 

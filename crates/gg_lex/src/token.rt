@@ -104,7 +104,7 @@ pub enum LexFault {
 
 impl fmt::Display for LexFault {
     ghost use Rattle.std.specs.Prelude.{Some};
-    ghost use Rattle.gg_lex.specs.FaultText.{fault_text};
+    ghost use Rattle.gg_lex.specs.inside.FaultText.{fault_text};
 
     ghost output = { λ fault. Some (fault_text fault) };
 

@@ -14,12 +14,12 @@ use Rattle.gg_net.proofs.CountLemmas.{same-machine, same-network}
 use Rattle.gg_net.proofs.MachineLemmas.{state-once}
 use Rattle.gg_net.proofs.MayLemmas.{consumer-there}
 use Rattle.gg_net.specs.markings.Marking.{Layout}
-use Rattle.gg_net.specs.markings.Fits.{HasLayout, marking_of}
+use Rattle.gg_net.specs.inside.Fits.{HasLayout, marking_of}
 use Rattle.gg_net.proofs.MarkingsLemmas.CountLemmas.{cycle-at, puts-are, takes-are}
 use Rattle.gg_net.proofs.MarkingsLemmas.PutsLemmas.{puts-within, entered-mono}
-use Rattle.gg_net.specs.markings.Counts.{Counts, counts_of, AreSame}
-use Rattle.gg_measure.specs.Nets.{AreLast}
-use Rattle.gg_measure.specs.At.{MachineIsAt, IsAt, latch_if, served_now, part_of}
+use Rattle.gg_net.specs.inside.Counts.{Counts, counts_of, AreSame}
+use Rattle.gg_measure.specs.inside.Nets.{AreLast}
+use Rattle.gg_measure.specs.inside.At.{MachineIsAt, IsAt, latch_if, served_now, part_of}
 use Rattle.gg_measure.proofs.NetLemmas.{serves-are}
 use Rattle.gg_measure.proofs.DoneLemmas.{last-of}
 

@@ -5,15 +5,15 @@ use Rattle.gg_net.specs.declared.event.Event.{Event}
 use Rattle.gg_net.specs.Network.{Network, frame_of}
 use Rattle.gg_net.specs.Kept.{Kept}
 use Rattle.gg_net.specs.markings.Marking.{Layout, Marking, opening_marking}
-use Rattle.gg_net.specs.markings.Fits.{HasLayout, marking_of}
+use Rattle.gg_net.specs.inside.Fits.{HasLayout, marking_of}
 use Rattle.gg_net.specs.markings.Steps.{Steps}
 use Rattle.gg_net.proofs.MarkingsLemmas.StepsLemmas.{steps-kept, steps-frame}
-use Rattle.gg_net.specs.markings.Counts.{Counts, counts_of, IsAllowed, HasBegun, AreAtMost, AreSame, CanRun, marking_by}
-use Rattle.gg_net.specs.markings.Leads.{Leads}
+use Rattle.gg_net.specs.inside.Counts.{Counts, counts_of, IsAllowed, HasBegun, AreAtMost, AreSame, CanRun, marking_by}
+use Rattle.gg_net.specs.inside.Leads.{Leads}
 use Rattle.gg_net.proofs.MarkingsLemmas.CountsLemmas.{allowed-same, by-shape, by-same, by-allowed}
 use Rattle.gg_net.proofs.MarkingsLemmas.EndLemmas.{opening-lowest}
 use Rattle.gg_net.proofs.MarkingsLemmas.LeadLemmas.{leads-up}
-use Rattle.gg_measure.specs.At.{IsAt}
+use Rattle.gg_measure.specs.inside.At.{IsAt}
 use Rattle.gg_measure.proofs.AtLemmas.{is-at, at-once}
 use Rattle.gg_measure.proofs.NetLemmas.{can-run, shape-of, allowed-of, begun-of}
 use Rattle.gg_measure.proofs.WayLemmas.{leads-net}

@@ -11,7 +11,7 @@ use Rattle.gg_net.specs.Kept.{Kept, MachineAt, BetweenAt, HasKept, Keeps, list_a
 use Rattle.gg_net.specs.Step.{latch_of, flag_of}
 use Rattle.gg_net.proofs.MayLemmas.{consumer-there, producer-there}
 use Rattle.gg_net.proofs.MarkingsLemmas.PutsLemmas.{puts-within}
-use Rattle.gg_measure.specs.Nets.{dues_at, net_left, wire_left, machine_left, AreDrained, AreLast, HaveKept}
+use Rattle.gg_measure.specs.inside.Nets.{dues_at, net_left, wire_left, machine_left, AreDrained, AreLast, HaveKept}
 use Rattle.gg_net.proofs.MarkingsLemmas.SumLemmas.{sum-each, sum-none}
 use Rattle.gg_measure.proofs.NetLemmas.{got-within}
 

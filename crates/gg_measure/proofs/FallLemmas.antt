@@ -8,16 +8,17 @@ use Rattle.gg_net.specs.Step.{Ready, Step}
 use Rattle.gg_net.proofs.StepLemmas.{kept-step}
 use Rattle.gg_net.proofs.GoesLemmas.{goes}
 use Rattle.gg_net.specs.markings.Marking.{Layout, Marking, opening_marking}
-use Rattle.gg_net.specs.markings.LayoutOf.{layout_of}
-use Rattle.gg_net.specs.markings.Fits.{HasLayout, marking_of}
+use Rattle.gg_net.specs.inside.LayoutOf.{layout_of}
+use Rattle.gg_net.specs.inside.Fits.{HasLayout, marking_of}
 use Rattle.gg_net.specs.markings.Steps.{Steps}
 use Rattle.gg_net.proofs.MarkingsLemmas.GoesLemmas.{free-ready}
 use Rattle.gg_net.proofs.MarkingsLemmas.StepsLemmas.{steps-kept}
-use Rattle.gg_net.specs.markings.Counts.{counts_of, CanRun}
-use Rattle.gg_net.specs.markings.Measure.{left, sum_below, all_dues}
+use Rattle.gg_net.specs.inside.Counts.{counts_of, CanRun}
+use Rattle.gg_net.specs.inside.Measure.{left}
+use Rattle.gg_net.specs.markings.Measure.{sum_below, all_dues}
 use Rattle.gg_net.proofs.MarkingsLemmas.SumLemmas.{sum-same}
 use Rattle.gg_net.proofs.MarkingsLemmas.EndLemmas.{goes-or-ends, end-left, opening-left}
-use Rattle.gg_measure.specs.Nets.{AreDrained, HaveKept, dues_at, net_left}
+use Rattle.gg_measure.specs.inside.Nets.{AreDrained, HaveKept, dues_at, net_left}
 use Rattle.gg_net.specs.Network.{AllStandAt}
 use Rattle.gg_measure.proofs.NetLemmas.{can-run, shape-of, allowed-of, left-is, dues-are, kind-count}
 use Rattle.gg_measure.proofs.GoLemmas.{laid-out, step-falls, none-ready}

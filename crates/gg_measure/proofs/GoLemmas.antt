@@ -12,23 +12,25 @@ use Rattle.gg_net.specs.declared.event.Event.{Event}
 use Rattle.gg_net.specs.declared.event.Event.TheVariants.{Latch, Fire, Serve, Finish}
 use Rattle.gg_net.specs.Network.{Network, Frame, Kind, kind_of, kind_at, frame_of}
 use Rattle.gg_net.specs.Kept.{Kept}
-use Rattle.gg_net.specs.Step.{Ready, Step, machine_of}
+use Rattle.gg_net.specs.Step.{Ready, Step}
+use Rattle.gg_net.specs.inside.Step.{machine_of}
 use Rattle.gg_net.proofs.StepLemmas.{kept-step}
 use Rattle.gg_net.proofs.TableLemmas.{latch-can, fire-can, serve-can, finish-can}
 use Rattle.gg_net.proofs.ProgressLemmas.{goes-on}
 use Rattle.gg_net.specs.markings.Marking.{Layout, Marking, turns_at, marked_puts, marked_takes, marked_refusal, after}
-use Rattle.gg_net.specs.markings.Fits.{HasLayout, marking_of}
+use Rattle.gg_net.specs.inside.Fits.{HasLayout, marking_of}
 use Rattle.gg_net.proofs.MarkingsLemmas.CountLemmas.{cycle-at, puts-are, takes-are}
 use Rattle.gg_net.proofs.MarkingsLemmas.GoesLemmas.{ready-free, step-marks, step-frame}
-use Rattle.gg_net.specs.markings.Counts.{counts_of, dues, fires, latches, finishes, accesses, IsAllowed, Raises}
+use Rattle.gg_net.specs.inside.Counts.{counts_of, fires, latches, finishes, accesses, IsAllowed, Raises}
+use Rattle.gg_net.specs.markings.Counts.{dues}
 use Rattle.gg_net.proofs.MarkingsLemmas.Free.{Free}
-use Rattle.gg_net.specs.markings.Measure.{left}
-use Rattle.gg_measure.specs.Nets.{IsAtWork, IsIdle, StepBelow, StepsBelow, Goes, StaysWithin, dues_at, net_left}
+use Rattle.gg_net.specs.inside.Measure.{left}
+use Rattle.gg_measure.specs.inside.Nets.{IsAtWork, IsIdle, StepBelow, StepsBelow, Goes, StaysWithin, dues_at, net_left}
 use Rattle.gg_net.specs.Network.{AllStandAt, cycle_at}
 use Rattle.gg_net.proofs.MarkingsLemmas.SumLemmas.{one-cases}
 use Rattle.gg_net.proofs.MarkingsLemmas.FreeLemmas.{is-free}
 use Rattle.gg_net.proofs.MarkingsLemmas.LeadLemmas.{Went, went}
-use Rattle.gg_net.specs.markings.LayoutOf.{layout_of}
+use Rattle.gg_net.specs.inside.LayoutOf.{layout_of}
 use Rattle.gg_net.proofs.MarkingsLemmas.LayoutLemmas.{has-layout}
 use Rattle.gg_net.proofs.MarkingsLemmas.GoesLemmas.{free-ready}
 use Rattle.gg_measure.proofs.NetLemmas.{can-run, shape-of, allowed-of, left-is, dues-are, serves-are}

@@ -16,22 +16,24 @@ use Rattle.gg_net.proofs.MayLemmas.{producer-there, consumer-there}
 use Rattle.gg_net.specs.Network as network
 use Rattle.gg_net.specs.Network.{Network, Kind, Frame, wire_at, kind_at, kind_of, no_kind, frame_of, got_by}
 use Rattle.gg_net.specs.Kept.{Kept, MachineAt, BetweenAt, NeedsChannel, list_at}
-use Rattle.gg_net.specs.Net.{IsWithinLimits}
+use Rattle.gg_net.specs.inside.Net.{IsWithinLimits}
 use Rattle.gg_net.specs.Step.{latch_of}
 use Rattle.gg_net.proofs.Can.{missing_of}
 use Rattle.gg_net.specs.Refusal.{Turn, first_without}
 use Rattle.gg_net.specs.Step.{facts_of}
 use Rattle.gg_net.proofs.TableLemmas.{needs-none, none-unfired}
 use Rattle.gg_net.specs.markings.Marking.{Layout, Marking, link_at, turns_at, is_set, marked_facts}
-use Rattle.gg_net.specs.markings.Fits.{HasLayout, IsTurnOf, AreTurnsOf, places_of, marking_of}
+use Rattle.gg_net.specs.inside.Fits.{HasLayout, IsTurnOf, AreTurnsOf, places_of, marking_of}
 use Rattle.gg_net.proofs.MarkingsLemmas.CountLemmas.{cycle-at, served-at, taken-at, given-at, puts-are, entered-are, takes-are}
 use Rattle.gg_net.proofs.MarkingsLemmas.ChangeLemmas.{taken-count, given-count}
 use Rattle.gg_net.proofs.MarkingsLemmas.AlikeLemmas.{needs-same, outs-same}
 use Rattle.gg_net.proofs.MarkingsLemmas.AgreeLemmas.{alike}
 use Rattle.gg_net.proofs.MarkingsLemmas.PutsLemmas.{puts-within}
-use Rattle.gg_net.specs.markings.Counts.{Counts, counts_of, dues, WasTaken, IsAllowed, HasBegun, CanRun, IsMarkingOf}
-use Rattle.gg_net.specs.markings.Measure.{sum_below, left}
-use Rattle.gg_measure.specs.Nets.{dues_at, net_left, wire_left, machine_left}
+use Rattle.gg_net.specs.inside.Counts.{Counts, counts_of, WasTaken, IsAllowed, HasBegun, CanRun, IsMarkingOf}
+use Rattle.gg_net.specs.markings.Counts.{dues}
+use Rattle.gg_net.specs.markings.Measure.{sum_below}
+use Rattle.gg_net.specs.inside.Measure.{left}
+use Rattle.gg_measure.specs.inside.Nets.{dues_at, net_left, wire_left, machine_left}
 use Rattle.gg_net.proofs.MarkingsLemmas.SumLemmas.{sum-same, sum-le, sum-add, sum-equal, sum-times, sum-front, sum-listed}
 use Rattle.gg_net.proofs.MarkingsLemmas.EarlyLemmas.{entered-is}
 use Rattle.gg_net.proofs.MarkingsLemmas.FreeLemmas.{all-taken, has-given, set-one, clear-one}

@@ -12,13 +12,13 @@ use Rattle.gg_net.specs.Step.{Step}
 use Rattle.gg_net.proofs.StepLemmas.{kept-step}
 use Rattle.gg_net.proofs.CountLemmas.{counted-once}
 use Rattle.gg_net.specs.markings.Marking.{Layout, Marking}
-use Rattle.gg_net.specs.markings.LayoutOf.{layout_of}
-use Rattle.gg_net.specs.markings.Fits.{HasLayout, marking_of}
+use Rattle.gg_net.specs.inside.LayoutOf.{layout_of}
+use Rattle.gg_net.specs.inside.Fits.{HasLayout, marking_of}
 use Rattle.gg_net.specs.markings.Steps.{Steps}
 use Rattle.gg_net.proofs.MarkingsLemmas.GoesLemmas.{ready-free, step-marks, step-frame}
 use Rattle.gg_net.proofs.MarkingsLemmas.StepsLemmas.{steps-kept, steps-frame}
 use Rattle.gg_net.proofs.MarkingsLemmas.LayoutLemmas.{has-layout}
-use Rattle.gg_net.specs.markings.Counts.{Counts, counts_of, fires, latches, finishes, accesses, Raises, AreSame}
+use Rattle.gg_net.specs.inside.Counts.{Counts, counts_of, fires, latches, finishes, accesses, Raises, AreSame}
 use Rattle.gg_net.proofs.MarkingsLemmas.LeadLemmas.{went, one-marking}
 use Rattle.gg_measure.proofs.NetLemmas.{can-run, shape-of, allowed-of}
 use Rattle.gg_measure.proofs.WayLemmas.{same-counts}

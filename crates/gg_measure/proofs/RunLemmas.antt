@@ -5,8 +5,9 @@ use Rattle.gg_flat.specs.Streams.{Flow}
 use Rattle.gg_net.specs.declared.event.Event.{Event}
 use Rattle.gg_net.specs.Network.{Network, Frame, kind_of, frame_of}
 use Rattle.gg_net.specs.Kept.{Kept}
-use Rattle.gg_net.specs.Step.{Step, cycle_of}
-use Rattle.gg_measure.specs.Nets.{Goes, HasRun, StaysWithin, StepsBelow}
+use Rattle.gg_net.specs.Step.{Step}
+use Rattle.gg_net.specs.inside.Step.{cycle_of}
+use Rattle.gg_measure.specs.inside.Nets.{Goes, HasRun, StaysWithin, StepsBelow}
 use Rattle.gg_net.specs.Network.{cycle_at}
 use Rattle.gg_measure.proofs.GoLemmas.{goes-none, goes-one, steps-then, steps-within}
 use Rattle.gg_measure.proofs.TurnLemmas.{steps-frame}

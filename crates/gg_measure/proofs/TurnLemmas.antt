@@ -10,14 +10,15 @@ use Rattle.gg_net.specs.declared.event.Event.TheVariants.{Latch, Fire, Serve, Fi
 use Rattle.gg_net.specs.declared.shape.Wire.{Wire}
 use Rattle.gg_net.specs.Network.{Network, Frame, Kind, wire_at, kind_of, kind_at, frame_of, IsAtIn, IsAtOut}
 use Rattle.gg_net.specs.Kept.{Kept}
-use Rattle.gg_net.specs.Step.{facts_of, Ready, Step, machine_of}
+use Rattle.gg_net.specs.Step.{facts_of, Ready, Step}
+use Rattle.gg_net.specs.inside.Step.{machine_of}
 use Rattle.gg_net.proofs.WireLemmas.{one-in, one-out}
 use Rattle.gg_net.proofs.RowLemmas.{latch-goes, fire-goes, serve-goes, finish-goes}
 use Rattle.gg_net.proofs.TableLemmas.{port-there, latch-can, fire-can, serve-can, finish-can}
 use Rattle.gg_net.proofs.MarkingsLemmas.GoesLemmas.{step-frame}
-use Rattle.gg_measure.specs.Nets.{IsAtWork, NoLatch, NoFire, NoServe, IsIdle, StepsBelow, StaysWithin, HasRun, Goes}
+use Rattle.gg_measure.specs.inside.Nets.{IsAtWork, NoLatch, NoFire, NoServe, IsIdle, StepsBelow, StaysWithin, HasRun, Goes}
 use Rattle.gg_net.specs.Network.{AllStandAt, cycle_at}
-use Rattle.gg_measure.specs.Turns.{HasTried, HasServedOne, HadTurn, HasGoneRound, NoneFound}
+use Rattle.gg_measure.specs.inside.Turns.{HasTried, HasServedOne, HadTurn, HasGoneRound, NoneFound}
 use Rattle.gg_measure.proofs.GoLemmas.{goes-none, goes-one, goes-then, goes-still, goes-falls, steps-kept, steps-within, all-stand, none-ready, machine-there, work-latch, work-fire, work-serve}
 
 or-true : (x : Bool) → (x || true) ≡ true

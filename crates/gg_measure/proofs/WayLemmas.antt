@@ -3,20 +3,21 @@ use Rattle.std.proofs.Common.{◌≡◌, List, [], ◌∷◌, Some, length, map,
 use Rattle.gg_flat.specs.Line.{value_at}
 use Rattle.gg_flat.specs.Streams.{Flow}
 use Rattle.gg_net.specs.declared.event.Event.{Event}
-use Rattle.gg_net.specs.Network.{Network, Frame, SameCounts, frame_of}
+use Rattle.gg_net.specs.Network.{Network, Frame, frame_of}
+use Rattle.gg_net.specs.inside.Network.{SameCounts}
 use Rattle.gg_net.specs.Kept.{Kept}
 use Rattle.gg_net.specs.Step.{Step}
 use Rattle.gg_net.proofs.StepLemmas.{kept-step}
 use Rattle.gg_net.proofs.GoesLemmas.{goes}
 use Rattle.gg_net.proofs.CountLemmas.{counted-once}
 use Rattle.gg_net.specs.markings.Marking.{Layout, Marking, marked_puts, marked_takes}
-use Rattle.gg_net.specs.markings.Fits.{HasLayout, marking_of}
+use Rattle.gg_net.specs.inside.Fits.{HasLayout, marking_of}
 use Rattle.gg_net.specs.markings.Steps.{Steps}
 use Rattle.gg_net.proofs.MarkingsLemmas.CountLemmas.{cycle-at, served-at, puts-are, takes-are}
 use Rattle.gg_net.proofs.MarkingsLemmas.GoesLemmas.{step-marks, step-frame}
 use Rattle.gg_net.proofs.MarkingsLemmas.StepsLemmas.{steps-kept, steps-frame}
-use Rattle.gg_net.specs.markings.Counts.{counts_of, AreAtMost}
-use Rattle.gg_net.specs.markings.Leads.{Leads}
+use Rattle.gg_net.specs.inside.Counts.{counts_of, AreAtMost}
+use Rattle.gg_net.specs.inside.Leads.{Leads}
 use Rattle.gg_net.proofs.MarkingsLemmas.LeadLemmas.{leads-up}
 use Rattle.gg_measure.proofs.NetLemmas.{can-run, shape-of, allowed-of}
 use Rattle.gg_net.proofs.MarkingsLemmas.GoesLemmas.{free-ready}

@@ -1,4 +1,2 @@
-pub mod Nets
-pub mod At
 pub mod Ways
-pub mod Turns
+pub mod inside

@@ -2,16 +2,18 @@
 ghost use Rattle.std.specs.Prelude.{◌≡◌, ◌↔◌, ◌+◌, ◌-◌, ◌*◌, ◌<◌, suc, List, Option, length, IsPermutation};
 ghost use Rattle.gg_flat.specs.Streams.{Flow};
 ghost use Rattle.gg_net.specs.declared.event.Event.{Event};
-ghost use Rattle.gg_net.specs.markings.Counts.{Counts, HasBegun, IsAllowed, AreAtMost, CanRun, IsMarkingOf};
-ghost use Rattle.gg_net.specs.markings.Measure.{left, sum_below};
+ghost use Rattle.gg_net.specs.inside.Counts.{Counts, HasBegun, IsAllowed, AreAtMost, CanRun, IsMarkingOf};
+ghost use Rattle.gg_net.specs.inside.Measure.{left};
+ghost use Rattle.gg_net.specs.markings.Measure.{sum_below};
 ghost use Rattle.gg_net.specs.Network.{Network, Frame, frame_of};
 ghost use Rattle.gg_net.specs.Kept.{Kept, IsSound};
 ghost use Rattle.gg_net.specs.Step.{Ready, Step};
 ghost use Rattle.gg_net.specs.markings.Steps.{Steps};
-ghost use Rattle.gg_net.specs.markings.Fits.{marking_of};
-ghost use Rattle.gg_measure.specs.At.{IsAt};
-ghost use Rattle.gg_measure.specs.Ways.{CanComeUp, LeadsTo, LeadsToCounts, LeadsToWith, OfEachKept, OfEachOpening, StepsBy, counts_in};
-ghost use Rattle.gg_measure.specs.Nets.{AreDrained, HaveKept, dues_at, net_left};
+ghost use Rattle.gg_net.specs.inside.Fits.{marking_of};
+ghost use Rattle.gg_measure.specs.inside.At.{IsAt};
+ghost use Rattle.gg_measure.specs.inside.Ways.{CanComeUp, LeadsTo, LeadsToCounts, LeadsToWith, OfEachKept, OfEachOpening, counts_in};
+ghost use Rattle.gg_measure.specs.Ways.{StepsBy};
+ghost use Rattle.gg_measure.specs.inside.Nets.{AreDrained, HaveKept, dues_at, net_left};
 ghost use Rattle.gg_net.specs.Network.{AllStandAt};
 
 /// The layout of a network that is kept can run. The counts are allowed and have begun. The measure of the network is

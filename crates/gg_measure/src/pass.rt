@@ -1,6 +1,6 @@
 //! A pass over the steps of an order.
 ghost use Rattle.std.specs.Prelude.{◌≡◌, ◌<◌, true};
-ghost use Rattle.gg_measure.specs.Nets.{Goes, net_left};
+ghost use Rattle.gg_measure.specs.inside.Nets.{Goes, net_left};
 
 use gg_bits::either;
 use gg_net::{Event, Net, Streams};

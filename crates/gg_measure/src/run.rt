@@ -1,9 +1,9 @@
 //! `run_to`: steps in the fixed order. `run_by`: the same cycle by cycle, by an order that is remembered.
 ghost use Rattle.std.specs.Prelude.{◌≡◌, ℕ, ◌<◌, ◌≤◌, true, length};
 ghost use Rattle.gg_net.specs.Network.{frame_of};
-ghost use Rattle.gg_measure.specs.Nets.{AreDrained, HaveKept, StaysWithin, HasRun, net_left};
+ghost use Rattle.gg_measure.specs.inside.Nets.{AreDrained, HaveKept, StaysWithin, HasRun, net_left};
 ghost use Rattle.gg_net.specs.Network.{AllStandAt, cycle_at};
-ghost use Rattle.gg_measure.specs.Turns.{HasGoneRound};
+ghost use Rattle.gg_measure.specs.inside.Turns.{HasGoneRound};
 
 use crate::order::Order;
 use crate::pass::pass;

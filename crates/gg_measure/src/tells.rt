@@ -2,9 +2,9 @@
 ghost use Rattle.std.specs.Prelude.{◌≡◌, ℕ, ◌<◌, length, MatchOption};
 ghost use Rattle.gg_net.specs.declared.event.Event.TheVariants.{Latch, Fire, Finish};
 ghost use Rattle.gg_net.specs.Step.{Ready};
-ghost use Rattle.gg_measure.specs.Nets.{NoServe, wire_left, machine_left, net_left};
+ghost use Rattle.gg_measure.specs.inside.Nets.{NoServe, wire_left, machine_left, net_left};
 ghost use Rattle.gg_net.specs.Network.{AllStandAt};
-ghost use Rattle.gg_measure.specs.Turns.{NoneFound};
+ghost use Rattle.gg_measure.specs.inside.Turns.{NoneFound};
 
 use crate::try_event::may;
 use gg_net::{Event, Net, Streams};

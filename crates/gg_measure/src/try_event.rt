@@ -2,7 +2,7 @@
 ghost use Rattle.std.specs.Prelude.{◌≡◌, ℕ, ◌<◌, length, MatchBool};
 ghost use Rattle.gg_net.specs.declared.event.Event.TheVariants.{Serve};
 ghost use Rattle.gg_net.specs.Step.{Ready, Step};
-ghost use Rattle.gg_measure.specs.Nets.{NoServe};
+ghost use Rattle.gg_measure.specs.inside.Nets.{NoServe};
 
 use crate::order::Order;
 use gg_net::{Event, Net, Streams};

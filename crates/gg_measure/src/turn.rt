@@ -1,9 +1,9 @@
 //! The turn of a machine, and a round of turns.
 ghost use Rattle.std.specs.Prelude.{◌≡◌, ℕ, ◌<◌, false, length, MatchBool};
 ghost use Rattle.gg_node.specs.Machine.{machine_at};
-ghost use Rattle.gg_measure.specs.Nets.{IsAtWork, IsIdle, NoLatch, NoFire, NoServe, Goes};
+ghost use Rattle.gg_measure.specs.inside.Nets.{IsAtWork, IsIdle, NoLatch, NoFire, NoServe, Goes};
 ghost use Rattle.gg_net.specs.Network.{cycle_at};
-ghost use Rattle.gg_measure.specs.Turns.{HasServedOne, HadTurn, HasGoneRound};
+ghost use Rattle.gg_measure.specs.inside.Turns.{HasServedOne, HadTurn, HasGoneRound};
 
 use crate::order::Order;
 use crate::try_event::{attempt_noted, serve_due};

@@ -13,8 +13,10 @@ use Rattle.gg_flat.specs.declared.memory.Writer.{Writer}
 use Rattle.gg_flat.specs.Circuit.{reader_at}
 use Rattle.gg_flat.specs.Memory.{read_count}
 use Rattle.gg_flat.specs.Served.{Access, ByReader, ByWriter, by_readers, by_writers, due_of}
-use Rattle.gg_node.specs.Machine.{Port, port_number, latched_value}
-use Rattle.gg_memunit.specs.MemoryUnit.{port_of, ports_by, count_by, number_by, writer_at, access_of}
+use Rattle.gg_node.specs.Machine.{Port, latched_value}
+use Rattle.gg_node.specs.inside.Machine.{port_number}
+use Rattle.gg_memunit.specs.MemoryUnit.{port_of, ports_by}
+use Rattle.gg_memunit.specs.inside.MemoryUnit.{count_by, number_by, writer_at, access_of}
 
 -- ---- lists
 

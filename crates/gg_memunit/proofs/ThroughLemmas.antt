@@ -19,10 +19,12 @@ use Rattle.gg_flat.specs.Circuit.{FlatCircuit}
 use Rattle.gg_flat.specs.State.{State, IsState, next_state, next_registers}
 use Rattle.gg_flat.specs.Settled.{Settled}
 use Rattle.gg_flat.specs.Memory.{Bank, found_word, read_word, next_banks, bank_at, IsBank, LooksAmong, WritesAmong}
-use Rattle.gg_flat.specs.Served.{Access, ByReader, ByWriter, by_readers, by_writers, due_of, due_list, written, after_access}
+use Rattle.gg_flat.specs.Served.{Access, ByReader, ByWriter, by_readers, by_writers, due_of, written, after_access}
+use Rattle.gg_flat.specs.inside.Served.{due_list}
 use Rattle.gg_order.proofs.RunsLemmas.ServedLemmas.{all-served}
 use Rattle.gg_node.specs.Machine.{latched_values}
-use Rattle.gg_memunit.specs.MemoryUnit.{IsMemoryPiece, port_of, ports_of, accessed_by}
+use Rattle.gg_memunit.specs.MemoryUnit.{IsMemoryPiece, port_of, ports_of}
+use Rattle.gg_memunit.specs.inside.MemoryUnit.{accessed_by}
 use Rattle.gg_memunit.proofs.UnitLemmas.{sole, of-sole, in-value}
 
 -- a state with these registers and one bank

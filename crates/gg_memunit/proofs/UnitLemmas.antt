@@ -19,12 +19,14 @@ use Rattle.gg_flat.specs.Settled.{Settled, driver_value}
 use Rattle.gg_flat.specs.WellFormed.{AreDriven, reader_driver}
 use Rattle.gg_flat.specs.Memory.{Bank, found_word, read_word, next_words_from, next_reads, next_banks, read_count, bank_at, LooksAmong}
 use Rattle.gg_flat.specs.Served.{Access, ByReader, ByWriter, after_access}
-use Rattle.gg_order.specs.runs.Lent.{with_bank}
-use Rattle.gg_node.specs.Machine.{RunsPiece, Port, Machine, latch_at, latched_value, latched_values, first_empty, needs_at, port_number}
+use Rattle.gg_order.specs.inside.Lent.{with_bank}
+use Rattle.gg_node.specs.Machine.{RunsPiece, Port, Machine, latch_at, latched_value, latched_values, first_empty, needs_at}
+use Rattle.gg_node.specs.inside.Machine.{port_number}
 use Rattle.gg_node.specs.Token.{AgreesOn, IsTokenOf, IsNextOf, accessed}
 use Rattle.gg_node.specs.Step.{with_served}
 use Rattle.gg_node.proofs.EmptyLemmas.{filled}
-use Rattle.gg_memunit.specs.MemoryUnit.{IsMemoryPiece, outs_of, ports_of, ports_by, count_by, needs_by, needs_of, state_of, memory_machine, access_of}
+use Rattle.gg_memunit.specs.MemoryUnit.{IsMemoryPiece, outs_of, ports_of, ports_by, needs_by, needs_of, memory_machine}
+use Rattle.gg_memunit.specs.inside.MemoryUnit.{count_by, state_of, access_of}
 use Rattle.gg_memunit.proofs.PortLemmas.{count_ports, due-below, reader-due, port-due, port-below}
 
 -- ---- latches

@@ -11,9 +11,10 @@ use Rattle.gg_flat.specs.Line.{value_at}
 use Rattle.gg_flat.specs.State.{State}
 use Rattle.gg_flat.specs.Memory.{bank_at, found_word}
 use Rattle.gg_flat.specs.Run.{column, opening_start, state_at}
-use Rattle.gg_flat.specs.Along.{rows_along}
+use Rattle.gg_flat.specs.inside.Along.{rows_along}
 use Rattle.gg_flat.proofs.WorkedMemories.{ports, ports_order, late, late_order, late_inputs}
-use Rattle.gg_memunit.specs.MemoryUnit.{ports_by, state_of, accessed_by}
+use Rattle.gg_memunit.specs.MemoryUnit.{ports_by}
+use Rattle.gg_memunit.specs.inside.MemoryUnit.{state_of, accessed_by}
 
 -- the state after a cycle in which the ins have these tokens, and all ports are served
 abbrev served : Latency → List Reader → List Writer → State → List ℕ → State

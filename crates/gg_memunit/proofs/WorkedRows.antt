@@ -7,7 +7,8 @@ use Rattle.gg_flat.specs.declared.memory.Reader.{Reader}
 use Rattle.gg_flat.specs.declared.memory.Writer.{Writer}
 use Rattle.gg_flat.specs.State.{State}
 use Rattle.gg_node.specs.Machine.{Port}
-use Rattle.gg_memunit.specs.MemoryUnit.{ports_by, needs_by, state_of, accessed_by}
+use Rattle.gg_memunit.specs.MemoryUnit.{ports_by, needs_by}
+use Rattle.gg_memunit.specs.inside.MemoryUnit.{state_of, accessed_by}
 
 abbrev r : Reader
 r = record { addr = 0; en = 1; word = 10; clock = None }

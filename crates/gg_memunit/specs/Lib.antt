@@ -1,1 +1,2 @@
 pub mod MemoryUnit
+pub mod inside

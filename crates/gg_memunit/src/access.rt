@@ -2,7 +2,7 @@
 ghost use Rattle.std.specs.Prelude.{◌≡◌, ◌+◌, ◌<◌, All, length};
 ghost use Rattle.gg_flat.specs.Memory.{found_word, LooksAmong, WritesAmong};
 ghost use Rattle.gg_flat.specs.Served.{after_access};
-ghost use Rattle.gg_memunit.specs.MemoryUnit.{access_of};
+ghost use Rattle.gg_memunit.specs.inside.MemoryUnit.{access_of};
 
 use gg_flat::{Memory, Reader};
 use gg_order::Bank;

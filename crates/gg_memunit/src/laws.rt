@@ -2,7 +2,8 @@
 ghost use Rattle.std.specs.Prelude.{List, Bool};
 ghost use Rattle.gg_flat.specs.Circuit.{FlatCircuit};
 ghost use Rattle.gg_flat.specs.State.{State, IsState};
-ghost use Rattle.gg_memunit.specs.MemoryUnit.{IsMemoryPiece, IsServedThrough};
+ghost use Rattle.gg_memunit.specs.MemoryUnit.{IsMemoryPiece};
+ghost use Rattle.gg_memunit.specs.inside.MemoryUnit.{IsServedThrough};
 
 /// A memory whose ports were all served has the contents that it would have after the cycle in a piece: its state is
 /// the next state of a tick with these edges, if the tokens in the latches are the inputs.

@@ -1,8 +1,10 @@
 //! The ports of a memory: what they need, and the order in which they are served.
 ghost use Rattle.std.specs.Prelude.{◌≡◌, ◌+◌, ◌<◌, ◌^◌, length, slice_get};
 ghost use Rattle.gg_flat.specs.Memory.{LooksAmong};
-ghost use Rattle.gg_node.specs.Machine.{first_empty, port_number};
-ghost use Rattle.gg_memunit.specs.MemoryUnit.{needs_by, ports_by, count_by, number_by};
+ghost use Rattle.gg_node.specs.Machine.{first_empty};
+ghost use Rattle.gg_node.specs.inside.Machine.{port_number};
+ghost use Rattle.gg_memunit.specs.MemoryUnit.{needs_by, ports_by};
+ghost use Rattle.gg_memunit.specs.inside.MemoryUnit.{count_by, number_by};
 
 use gg_flat::{Latency, Reader, UnderWrite, Writer};
 use gg_node::first_empty;

@@ -2,10 +2,13 @@
 ghost use Rattle.std.specs.Prelude.{◌≡◌, ℕ, ◌<◌, ◌≤◌, List, [], ◌∷◌, None, false, length, replicate, is_some, slice_set, IfOk};
 ghost use Rattle.gg_bits.specs.Limits.{cycle_limit};
 ghost use Rattle.gg_flat.specs.State.{IsState};
-ghost use Rattle.gg_node.specs.Machine.{RunsPiece, Machine, machine_at, latch_at, flag_at, missing, due};
+ghost use Rattle.gg_node.specs.Machine.{RunsPiece, Machine, machine_at, latch_at, flag_at, missing};
+ghost use Rattle.gg_node.specs.inside.Machine.{due};
 ghost use Rattle.gg_node.specs.Token.{IsToken, IsNextState};
-ghost use Rattle.gg_node.specs.Step.{MayLatch, MayFire, MayServe, MayFinish, with_latch, with_flag, with_served, finished};
-ghost use Rattle.gg_memunit.specs.MemoryUnit.{IsMemoryPiece, opening_unit, started_unit};
+ghost use Rattle.gg_node.specs.inside.Step.{MayLatch, MayFire, MayServe, MayFinish};
+ghost use Rattle.gg_node.specs.Step.{with_latch, with_flag, with_served, finished};
+ghost use Rattle.gg_memunit.specs.MemoryUnit.{IsMemoryPiece, started_unit};
+ghost use Rattle.gg_memunit.specs.inside.MemoryUnit.{opening_unit};
 
 use crate::{access, ports};
 use gg_clocks::{Ratio, Timing};
@@ -53,7 +56,8 @@ impl Drop for MemUnit {
 impl Model for MemUnit {
     ghost use Rattle.gg_bits.specs.Limits.{cycle_limit};
     ghost use Rattle.gg_node.specs.Machine.{Machine};
-    ghost use Rattle.gg_memunit.specs.MemoryUnit.{memory_machine, IsOfPiece};
+    ghost use Rattle.gg_memunit.specs.MemoryUnit.{memory_machine};
+    ghost use Rattle.gg_memunit.specs.inside.MemoryUnit.{IsOfPiece};
 
     ghost Value = { Machine };
 

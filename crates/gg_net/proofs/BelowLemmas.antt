@@ -2,12 +2,15 @@
 use Rattle.std.proofs.Common.{◌≡◌, ℕ, ◌<◌, ◌≤◌, true, None, length, sym, ap, subst, ◌∙◌, arith}
 use Rattle.std.specs.Prelude.{nat_lt}
 use Rattle.std.proofs.lemmas.Bool.{ltb-true}
-use Rattle.gg_node.specs.Machine.{Machine, machine_at, due}
-use Rattle.gg_node.specs.Step.{Gives, AllFired, AllLatched}
+use Rattle.gg_node.specs.Machine.{Machine, machine_at}
+use Rattle.gg_node.specs.inside.Machine.{due}
+use Rattle.gg_node.specs.inside.Step.{Gives, AllLatched}
+use Rattle.gg_node.specs.Step.{AllFired}
 use Rattle.gg_net.specs.declared.event.Event.TheVariants.{Fire, Finish}
 use Rattle.gg_net.specs.declared.shape.Wire.{Wire}
 use Rattle.gg_net.specs.Network.{Network, wire_at, queue_at, producer_of, frame_of}
-use Rattle.gg_net.specs.Step.{Ready, cycle_of}
+use Rattle.gg_net.specs.Step.{Ready}
+use Rattle.gg_net.specs.inside.Step.{cycle_of}
 use Rattle.gg_net.specs.Kept.{IsWired}
 use Rattle.gg_net.proofs.TableLemmas.{can-fire, can-finish}
 

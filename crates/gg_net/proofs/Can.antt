@@ -1,11 +1,13 @@
 -- When each event may be done, by the latches and flags of the machine at hand, where the table of steps speaks of
 -- channels. `TableLemmas` has, for each event, that all of this holds exactly if the table doesn't refuse it.
 use Rattle.std.specs.Prelude.{◌≡◌, ℕ, ◌<◌, Option, Some, None, false, length}
-use Rattle.gg_node.specs.Machine.{machine_at, first_empty, missing, due}
-use Rattle.gg_node.specs.Step.{AllFired, AllLatched}
+use Rattle.gg_node.specs.Machine.{machine_at, first_empty, missing}
+use Rattle.gg_node.specs.inside.Machine.{due}
+use Rattle.gg_node.specs.Step.{AllFired}
+use Rattle.gg_node.specs.inside.Step.{AllLatched}
 use Rattle.gg_net.specs.Network.{Network, wire_at, queue_at, producer_of, IsAtIn, IsAtOut}
 use Rattle.gg_net.specs.Step.{latch_of, flag_of}
-use Rattle.gg_net.specs.Readings.{due_fields, IsFirstClear, IsFirstEmpty}
+use Rattle.gg_net.specs.inside.Readings.{due_fields, IsFirstClear, IsFirstEmpty}
 
 -- machine m has cycles left
 abbrev pub IsBelow : Network → ℕ → Type 0

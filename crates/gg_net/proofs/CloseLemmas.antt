@@ -9,7 +9,8 @@ use Rattle.gg_flat.specs.State.{State}
 use Rattle.gg_flat.specs.Streams.{Flow}
 use Rattle.gg_node.specs.Machine.{Machine, no_machine, machine_at}
 use Rattle.gg_node.specs.Token.{IsToken, IsNextState}
-use Rattle.gg_node.specs.Step.{MayLatch, MayFire, MayServe, MayFinish, with_latch, with_flag, with_served, finished}
+use Rattle.gg_node.specs.inside.Step.{MayLatch, MayFire, MayServe, MayFinish}
+use Rattle.gg_node.specs.Step.{with_latch, with_flag, with_served, finished}
 use Rattle.gg_net.specs.declared.shape.Wire.{Wire}
 use Rattle.gg_net.specs.declared.shape.Station.{Station}
 use Rattle.gg_net.specs.declared.event.Event.TheVariants.{Latch, Fire, Serve, Finish}
@@ -17,9 +18,9 @@ use Rattle.gg_net.specs.Network.{Network, wire_at, queue_at, producer_of, consum
 use Rattle.gg_net.specs.Step.{front_of, after_latch, after_serve, Gives, GoesOn}
 use Rattle.gg_net.proofs.Can.{CanLatch, CanFire, CanServe, CanFinish}
 use Rattle.gg_net.specs.Kept.{Kept}
-use Rattle.gg_net.specs.Queue.{Held}
-use Rattle.gg_net.specs.Stations.{machines_by, stationed, IsStationed, IsReplacedAt, HasGoneOn}
-use Rattle.gg_net.specs.Net.{net_of, held_at, AreListed, HasRoom, IsWithinLimits, IsNet}
+use Rattle.gg_net.specs.inside.Queue.{Held}
+use Rattle.gg_net.specs.inside.Stations.{machines_by, stationed, IsStationed, IsReplacedAt, HasGoneOn}
+use Rattle.gg_net.specs.inside.Net.{net_of, held_at, AreListed, HasRoom, IsWithinLimits, IsNet}
 use Rattle.gg_net.proofs.StationLemmas.{machines-set, are-stationed}
 use Rattle.gg_net.proofs.StepLemmas.{kept-step}
 use Rattle.gg_net.proofs.TableLemmas.{can-latch, can-fire, can-serve, can-finish}

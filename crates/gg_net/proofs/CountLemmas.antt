@@ -7,7 +7,8 @@ use Rattle.gg_flat.specs.State.{State}
 use Rattle.gg_flat.specs.Streams.{Flow}
 use Rattle.gg_node.specs.Machine.{Behaviour, RunsPiece, GivesColumn, KeepsLast, Machine, no_machine, machine_at, latch_at, flag_at}
 use Rattle.gg_net.specs.declared.shape.Wire.{Wire}
-use Rattle.gg_net.specs.Network.{wire_at, IsAtIn, IsAtOut, Network, queue_at, and_one, got_by, entered_by, puts, takes, entered, SameCounts, Kind, kind_of, kind_at, Frame, frame_of}
+use Rattle.gg_net.specs.Network.{wire_at, IsAtIn, IsAtOut, Network, queue_at, and_one, got_by, entered_by, puts, takes, entered, Kind, kind_of, kind_at, Frame, frame_of}
+use Rattle.gg_net.specs.inside.Network.{SameCounts}
 use Rattle.gg_net.specs.Kept.{list_at, rows_at, start_at, Runs, IsSound, BetweenAt, IsStateOf, HasKept, Keeps, KeepsNone, MachineAt, Kept}
 use Rattle.gg_net.proofs.MachineLemmas.{state-once}
 

@@ -15,11 +15,13 @@ use Rattle.gg_flat.specs.Settled.{Settled}
 use Rattle.gg_flat.specs.Depends.{AreAlike}
 use Rattle.gg_flat.specs.Run.{Start, row_at}
 use Rattle.gg_flat.specs.Streams.{Flow}
-use Rattle.gg_node.specs.Machine.{Behaviour, RunsPiece, GivesColumn, KeepsLast, Port, Machine, edges_of, latch_at, flag_at, latched_value, latched_values, first_empty, needs_at, missing, port_number, due}
+use Rattle.gg_node.specs.Machine.{Behaviour, RunsPiece, GivesColumn, KeepsLast, Port, Machine, edges_of, latch_at, flag_at, latched_value, latched_values, first_empty, needs_at, missing}
+use Rattle.gg_node.specs.inside.Machine.{port_number, due}
 use Rattle.gg_node.specs.Token.{AgreesOn, IsToken, IsTokenOf, IsNextState, IsNextOf, accessed}
-use Rattle.gg_node.specs.Step.{with_latch, with_flag, with_served, finished, kept_with, kept_after, fields_of, HasFields, AllFired, AllLatched}
+use Rattle.gg_node.specs.Step.{with_latch, with_flag, with_served, finished, kept_with, kept_after, fields_of, HasFields, AllFired}
+use Rattle.gg_node.specs.inside.Step.{AllLatched}
 use Rattle.gg_net.specs.Network.{wire_at, IsAtIn, entered_by, Kind, kind_at, Frame}
-use Rattle.gg_net.specs.Readings.{fields_at, due_fields}
+use Rattle.gg_net.specs.inside.Readings.{fields_at, due_fields}
 use Rattle.gg_net.specs.Kept.{list_at, rows_at, start_at, ins_of, run_state, served_one, served_by, RunsRows, Runs, Answers, Asks, ServesRows, IsSound, IsStateOf, HasKept, Keeps, KeepsNone, MachineAt}
 use Rattle.gg_net.proofs.LatchLemmas.{has-value, latch-within, latch-grows, value-latched, all-filled, missing-grows, no-latch, no-flag}
 use Rattle.gg_net.proofs.WireLemmas.{one-in}

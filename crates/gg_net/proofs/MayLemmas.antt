@@ -8,7 +8,7 @@ use Rattle.gg_flat.specs.Circuit.{signal_shapes}
 use Rattle.gg_flat.specs.Run.{row_at}
 use Rattle.gg_flat.specs.Streams.{Flow}
 use Rattle.gg_node.specs.Machine.{Behaviour, RunsPiece, GivesColumn, KeepsLast, Machine}
-use Rattle.gg_node.specs.Step.{FitsIn, HasValueAt, MayLatch, MayFire}
+use Rattle.gg_node.specs.inside.Step.{FitsIn, HasValueAt, MayLatch, MayFire}
 use Rattle.gg_net.specs.declared.shape.Wire.{Wire}
 use Rattle.gg_net.specs.Network.{Network, wire_at, queue_at, producer_of, consumer_of, takes, entered, got_by, kind_of, kind_at, Frame, frame_of}
 use Rattle.gg_net.specs.Step.{front_of}

@@ -3,11 +3,12 @@ use Rattle.std.proofs.Common.{◌≡◌, ℕ, ◌<◌, ◌≤◌, Option, Some, 
 use Rattle.std.specs.Prelude.{All, Contains, slice_get}
 use Rattle.std.proofs.lemmas.Option.{slice_get_within, get_or_from_slice_get}
 use Rattle.gg_flat.specs.Streams.{Flow}
-use Rattle.gg_node.specs.Machine.{Port, Machine, machine_at, first_empty, needs_at, missing, due}
+use Rattle.gg_node.specs.Machine.{Port, Machine, machine_at, first_empty, needs_at, missing}
+use Rattle.gg_node.specs.inside.Machine.{due}
 use Rattle.gg_node.specs.Step.{fields_of}
 use Rattle.gg_net.specs.declared.shape.Wire.{Wire}
 use Rattle.gg_net.specs.Network.{Network, queue_at, wire_at, Kind}
-use Rattle.gg_net.specs.Readings.{fields_at, due_fields}
+use Rattle.gg_net.specs.inside.Readings.{fields_at, due_fields}
 use Rattle.gg_net.specs.Kept.{Kept}
 use Rattle.gg_net.proofs.LatchLemmas.{first-among}
 use Rattle.gg_net.proofs.MachineLemmas.{due-port}

@@ -12,9 +12,10 @@ use Rattle.gg_net.specs.declared.shape.Wire.{Wire}
 use Rattle.gg_net.specs.declared.shape.Station.{Station}
 use Rattle.gg_net.specs.Network.{Network, wire_at, queue_at, and_one, got_by, entered_by, opening_queue, puts, takes, entered, kind_of, kind_at, frame_of}
 use Rattle.gg_net.specs.Kept.{list_at, rows_at, start_at, ins_of, run_state, served_by, IsStateOf, Keeps, KeepsNone, MachineAt, Kept}
-use Rattle.gg_net.specs.Queue.{Held}
-use Rattle.gg_net.specs.Stations.{machines_by, stationed}
-use Rattle.gg_net.specs.Net.{net_of, IsNet, OpensIn, IsOpening, opening_net, Opens, AreOpen}
+use Rattle.gg_net.specs.inside.Queue.{Held}
+use Rattle.gg_net.specs.inside.Stations.{machines_by, stationed}
+use Rattle.gg_net.specs.inside.Net.{net_of, IsNet, OpensIn, IsOpening, Opens, AreOpen}
+use Rattle.gg_net.specs.Net.{opening_net}
 use Rattle.gg_net.proofs.LatchLemmas.{no-latch, no-flag}
 use Rattle.gg_net.proofs.StepLemmas.{clear-after}
 use Rattle.gg_net.proofs.ChannelLemmas.{between-same, between-open}

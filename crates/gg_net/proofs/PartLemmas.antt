@@ -7,18 +7,20 @@ use Rattle.std.proofs.Math.ListN as exact
 use Rattle.gg_flat.specs.Line.{value_at}
 use Rattle.gg_flat.specs.State.{State}
 use Rattle.gg_flat.specs.Streams.{Flow}
-use Rattle.gg_node.specs.Machine.{Port, Machine, no_machine, machine_at, latch_at, flag_at, first_empty, missing, due}
-use Rattle.gg_node.specs.Step.{FitsIn, MayLatch, MayFire, MayServe, MayFinish, HasFields, fields_of, with_latch, with_flag, finished, AllFired, AllLatched}
+use Rattle.gg_node.specs.Machine.{Port, Machine, no_machine, machine_at, latch_at, flag_at, first_empty, missing}
+use Rattle.gg_node.specs.inside.Machine.{due}
+use Rattle.gg_node.specs.inside.Step.{FitsIn, MayLatch, MayFire, MayServe, MayFinish, AllLatched}
+use Rattle.gg_node.specs.Step.{HasFields, fields_of, with_latch, with_flag, finished, AllFired}
 use Rattle.gg_node.proofs.EmptyLemmas.{empty-after}
 use Rattle.gg_net.specs.declared.shape.Wire.{Wire}
 use Rattle.gg_net.specs.declared.shape.Station.{Station}
 use Rattle.gg_net.specs.Network.{wire_at, Network, queue_at, and_one, got_by, entered_by, Kind, no_kind, kind_of, Frame, frame_of}
-use Rattle.gg_net.specs.Readings.{fields_at, due_fields}
+use Rattle.gg_net.specs.inside.Readings.{fields_at, due_fields}
 use Rattle.gg_net.specs.Kept.{list_at, IsSound, MachineAt, BetweenAt, Kept}
-use Rattle.gg_net.specs.Parted.{takes_by, enters_by}
-use Rattle.gg_net.specs.Queue.{Held}
-use Rattle.gg_net.specs.Stations.{hosted, stationed, machines_by, IsStationed}
-use Rattle.gg_net.specs.Net.{net_of, AreListed, HasRoom, IsWithinLimits, IsNet}
+use Rattle.gg_net.specs.inside.Parted.{takes_by, enters_by}
+use Rattle.gg_net.specs.inside.Queue.{Held}
+use Rattle.gg_net.specs.inside.Stations.{hosted, stationed, machines_by, IsStationed}
+use Rattle.gg_net.specs.inside.Net.{net_of, AreListed, HasRoom, IsWithinLimits, IsNet}
 use Rattle.gg_net.proofs.PortLemmas.{any_port}
 use Rattle.gg_net.proofs.WireLemmas.{one-in, one-out}
 use Rattle.gg_net.proofs.LatchLemmas.{has-value, all-filled}

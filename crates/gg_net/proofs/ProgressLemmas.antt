@@ -5,13 +5,15 @@ use Rattle.std.proofs.lemmas.Bool.{cases_lt}
 use Rattle.std.proofs.lemmas.Option.{none-some, same_Some, slice_get_within, get_or_from_slice_get}
 use Rattle.gg_flat.specs.Line.{value_at}
 use Rattle.gg_flat.specs.Streams.{Flow}
-use Rattle.gg_node.specs.Machine.{Port, Machine, machine_at, latch_at, flag_at, first_empty, empty_or, needs_at, port_number}
-use Rattle.gg_node.specs.Step.{fields_of, AllFired, AllLatched}
+use Rattle.gg_node.specs.Machine.{Port, Machine, machine_at, latch_at, flag_at, first_empty, empty_or, needs_at}
+use Rattle.gg_node.specs.inside.Machine.{port_number}
+use Rattle.gg_node.specs.Step.{fields_of, AllFired}
+use Rattle.gg_node.specs.inside.Step.{AllLatched}
 use Rattle.gg_net.specs.declared.event.Event.{Event}
 use Rattle.gg_net.specs.declared.event.Event.TheVariants.{Latch, Fire, Serve, Finish}
 use Rattle.gg_net.specs.Network.{Network, wire_at, IsAtIn, IsAtOut, queue_at, producer_of, consumer_of, and_one, got_by, entered_by, puts, takes, entered, Kind, kind_at, frame_of}
 use Rattle.gg_net.specs.Step.{latch_of, flag_of, Ready}
-use Rattle.gg_net.specs.Readings.{fields_at}
+use Rattle.gg_net.specs.inside.Readings.{fields_at}
 use Rattle.gg_net.proofs.Can.{missing_of}
 use Rattle.gg_net.specs.Kept.{list_at, NeedsChannel, BetweenAt, Kept}
 use Rattle.gg_net.proofs.LatchLemmas.{first-among, none-empty}

@@ -8,7 +8,7 @@ use Rattle.gg_node.specs.Machine.{Machine, no_machine, machine_at}
 use Rattle.gg_node.specs.Token.{IsNextState}
 use Rattle.gg_node.specs.Step.{finished}
 use Rattle.gg_net.specs.declared.shape.Station.{Station}
-use Rattle.gg_net.specs.Stations.{hosted, stationed, machines_by, IsStationed, AreStationed, IsReplacedAt, HasGoneOn}
+use Rattle.gg_net.specs.inside.Stations.{hosted, stationed, machines_by, IsStationed, AreStationed, IsReplacedAt, HasGoneOn}
 
 module _ {X : Type 0} (machines : X → List Machine) (hosts : List X) (station : Station) (host new : X) (is_stationed : IsStationed (map machines hosts) station) (is : host ≡ slice_index_or hosts station.host host) where
   hosted-is : hosted (map machines hosts) station.host ≡ machines host

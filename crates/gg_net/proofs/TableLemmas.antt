@@ -5,8 +5,10 @@ use Rattle.std.specs.Prelude.{All, Contains, IsSome, is_some, not, ◌==◌, sli
 use Rattle.std.proofs.lemmas.Bool.{cases_lt, lt-ltb, le-ltb, ltb-true, not-false, eq-eqb, eqb-true, true≢false}
 use Rattle.std.proofs.lemmas.List.{get_or_past, get_or_default}
 use Rattle.std.proofs.lemmas.Option.{same_Some, none-some, slice_get_within, get_or_from_slice_get}
-use Rattle.gg_node.specs.Machine.{Port, Machine, no_machine, machine_at, latch_at, flag_at, needs_at, first_empty, empty_or, missing, port_number, due}
-use Rattle.gg_node.specs.Step.{fields_of, AllFired, AllLatched}
+use Rattle.gg_node.specs.Machine.{Port, Machine, no_machine, machine_at, latch_at, flag_at, needs_at, first_empty, empty_or, missing}
+use Rattle.gg_node.specs.inside.Machine.{port_number, due}
+use Rattle.gg_node.specs.Step.{fields_of, AllFired}
+use Rattle.gg_node.specs.inside.Step.{AllLatched}
 use Rattle.gg_net.specs.declared.event.Event.{Event}
 use Rattle.gg_net.specs.declared.event.Event.TheVariants.{Latch, Fire, Serve, Finish}
 use Rattle.gg_net.specs.declared.event.StepRefusal.{StepRefusal}
@@ -14,7 +16,7 @@ use Rattle.gg_net.specs.declared.shape.Wire.{Wire}
 use Rattle.gg_net.specs.Network.{Network, wire_at, producer_of, IsAtIn, IsAtOut, Kind, kind_of, kind_at, frame_of}
 use Rattle.gg_net.specs.Refusal.{Turn, first_without, ins_of_machine, outs_of_machine}
 use Rattle.gg_net.specs.Step.{latch_of, flag_of, channel_into, channels_at, turn_of, turn_if, facts_of, Ready, Refused}
-use Rattle.gg_net.specs.Readings.{fields_at, due_fields, due_channels}
+use Rattle.gg_net.specs.inside.Readings.{fields_at, due_fields, due_channels}
 use Rattle.gg_net.proofs.Can.{IsBelow, missing_field, CanLatch, CanFire, CanServe, CanFinish, IsUnfired, IsUnlatched}
 use Rattle.gg_net.specs.Kept.{IsWired}
 use Rattle.gg_net.proofs.FrameLemmas.{machine-known, machine-there, kind-is}

@@ -23,7 +23,8 @@ use Rattle.gg_net.specs.Step.{after_latch, after_fire, after_serve, after_finish
 use Rattle.gg_net.specs.Kept.{list_at, rows_at, start_at, Runs, Answers, Asks, Solves, IsWired, NeedsChannel, HasNoRing, BetweenAt}
 use Rattle.gg_net.proofs.FindLemmas.{some-none}
 use Rattle.gg_net.proofs.RowLemmas.{serve-stranger}
-use Rattle.gg_net.specs.Net.{IsWithinLimits, opening_net}
+use Rattle.gg_net.specs.inside.Net.{IsWithinLimits}
+use Rattle.gg_net.specs.Net.{opening_net}
 use Rattle.gg_net.specs.declared.shape.Station.{Station}
 use Rattle.gg_flat.specs.Streams.{Flow}
 

@@ -7,8 +7,8 @@ use Rattle.gg_node.specs.Machine.{machine_at}
 use Rattle.gg_net.specs.declared.shape.Station.{Station}
 use Rattle.gg_net.specs.Network.{IsAtIn, IsAtOut, kind_at, frame_of}
 use Rattle.gg_net.specs.Kept.{NeedsChannel}
-use Rattle.gg_net.specs.Stations.{hosted, IsStationed, HasStation, AreStationed, machines_by}
-use Rattle.gg_net.specs.Net.{IsListed, AreListed, IsOpening, Opens}
+use Rattle.gg_net.specs.inside.Stations.{hosted, IsStationed, HasStation, AreStationed, machines_by}
+use Rattle.gg_net.specs.inside.Net.{IsListed, AreListed, IsOpening, Opens}
 use Rattle.gg_net.proofs.WorkedNets.{fed_hosts, fed_stations, fed_wires, fed_flow, fed, fed-wired, fed-solved, no-needs, within-limits}
 
 host-is : (m : ℕ) (s : Station) → m < 2 → (slice_index_or fed_stations m s).host ≡ m

@@ -26,7 +26,8 @@ use Rattle.gg_net.specs.declared.event.StepRefusal.TheVariants.{Full}
 use Rattle.gg_net.specs.Network.{Network, wire_at, IsAtIn, IsAtOut, queue_at, entered_by, puts, takes, entered, kind_at, frame_of}
 use Rattle.gg_net.specs.Step.{after_latch, Ready, Refused}
 use Rattle.gg_net.specs.Kept.{list_at, rows_at, start_at, in_columns, Runs, RunsRows, Answers, Asks, Solves, IsWired, NeedsChannel, BetweenAt, HasKept, Kept}
-use Rattle.gg_net.specs.Net.{IsOpening, opening_net}
+use Rattle.gg_net.specs.inside.Net.{IsOpening}
+use Rattle.gg_net.specs.Net.{opening_net}
 use Rattle.gg_net.proofs.OpenLemmas.{machine-open}
 use Rattle.gg_net.proofs.WorkedNets.{no-needs}
 

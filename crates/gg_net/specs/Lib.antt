@@ -1,11 +1,7 @@
 pub mod Network
 pub mod Refusal
 pub mod Step
-pub mod Readings
 pub mod Kept
-pub mod Queue
-pub mod Stations
 pub mod Net
-pub mod Parted
-pub mod TrayLaws
 pub mod markings
+pub mod inside

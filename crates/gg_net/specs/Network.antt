@@ -95,13 +95,6 @@ opening_queue (Some token) = token ∷ []
 abbrev pub serves : Network → ℕ → ℕ
 serves net m = length (machine_at net.machines m).ports * (machine_at net.machines m).cycle + (machine_at net.machines m).served
 
--- Two networks have the same counts.
-pub record SameCounts (a b : Network) : Type 0 where
-  pub cycles : (m : ℕ) → m < length a.machines → (machine_at a.machines m).cycle ≡ (machine_at b.machines m).cycle
-  pub served : (m : ℕ) → m < length a.machines → (machine_at a.machines m).served ≡ (machine_at b.machines m).served
-  pub puts : (c : ℕ) → c < length a.wires → puts a c ≡ puts b c
-  pub takes : (c : ℕ) → c < length a.wires → takes a c ≡ takes b c
-
 -- ---- what no step changes
 
 -- The parts of a machine that never change: what it does, the number of cycles that it can do, the ratios of its

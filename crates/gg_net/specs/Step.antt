@@ -132,16 +132,3 @@ After old (Finish m) new = GoesOn old m new
 pub record Step (old : Network) (event : Event) (new : Network) : Type 0 where
   pub ready : Ready old event
   pub after : After old event new
-
--- ---- machines of events
-
--- the machine that does an event: a channel's consumer takes its token, and its producer gives it
-abbrev pub machine_of : Network → Event → ℕ
-machine_of net (Latch c) = (wire_at net.wires c).consumer
-machine_of net (Fire c) = (wire_at net.wires c).producer
-machine_of net (Serve m p) = m
-machine_of net (Finish m) = m
-
--- the cycle that the machine of an event is in
-abbrev pub cycle_of : Network → Event → ℕ
-cycle_of net event = (machine_at net.machines (machine_of net event)).cycle

@@ -1,10 +1,5 @@
 pub mod Marking
 pub mod Goes
-pub mod Fits
 pub mod Steps
-pub mod LayoutOf
-pub mod MarkingLaws
 pub mod Counts
 pub mod Measure
-pub mod Leads
-pub mod ProgressLaws

@@ -1,6 +1,7 @@
 //! `step_below`: an event of a machine that is below a cycle.
 ghost use Rattle.std.specs.Prelude.{◌≡◌, ◌<◌, ◌≤◌, true, MatchBool};
-ghost use Rattle.gg_net.specs.Step.{Ready, Step, machine_of, cycle_of};
+ghost use Rattle.gg_net.specs.Step.{Ready, Step};
+ghost use Rattle.gg_net.specs.inside.Step.{machine_of, cycle_of};
 ghost use Rattle.gg_net.specs.declared.event.Event.TheVariants.{Latch, Fire, Serve, Finish};
 
 use crate::event::Event;

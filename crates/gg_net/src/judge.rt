@@ -1,10 +1,11 @@
 //! Whether an event may be done, and if not, why.
 ghost use Rattle.std.specs.Prelude.{◌≡◌, ◌<◌, ◌≤◌, Some, length, MatchResult};
-ghost use Rattle.gg_node.specs.Machine.{machine_at, due};
+ghost use Rattle.gg_node.specs.Machine.{machine_at};
+ghost use Rattle.gg_node.specs.inside.Machine.{due};
 ghost use Rattle.gg_net.specs.Network.{wire_at, queue_at};
 ghost use Rattle.gg_net.specs.Refusal.{first_without, ins_of_machine, outs_of_machine};
 ghost use Rattle.gg_net.specs.Step.{facts_of, Ready, Refused};
-ghost use Rattle.gg_net.specs.Readings.{due_channels};
+ghost use Rattle.gg_net.specs.inside.Readings.{due_channels};
 ghost use Rattle.gg_net.specs.declared.event.Event.TheVariants.{Latch, Fire, Serve, Finish};
 
 use crate::event::{Event, StepRefusal};

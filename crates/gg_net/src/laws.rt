@@ -4,10 +4,11 @@ ghost use Rattle.gg_flat.specs.Streams.{Flow};
 ghost use Rattle.gg_node.specs.Machine.{machine_at};
 ghost use Rattle.gg_net.specs.declared.event.Event.{Event};
 ghost use Rattle.gg_net.specs.declared.event.StepRefusal.{StepRefusal};
-ghost use Rattle.gg_net.specs.Network.{Network, SameCounts, frame_of};
+ghost use Rattle.gg_net.specs.Network.{Network, frame_of};
+ghost use Rattle.gg_net.specs.inside.Network.{SameCounts};
 ghost use Rattle.gg_net.specs.Kept.{Kept};
 ghost use Rattle.gg_net.specs.Step.{Ready, Refused, Step};
-ghost use Rattle.gg_net.specs.TrayLaws.{TraysTell, TraysTellOnly};
+ghost use Rattle.gg_net.specs.inside.TrayLaws.{TraysTell, TraysTellOnly};
 
 /// An event of a network that is kept, if it may be done, can be done in exactly one way. It isn't refused.
 pub fn goes_once()

@@ -1,9 +1,11 @@
 //! The machines of a network at their hosts: facts about them, and their steps.
 ghost use Rattle.std.specs.Prelude.{◌≡◌, ◌<◌, length, map, is_some};
-ghost use Rattle.gg_node.specs.Machine.{machine_at, latch_at, flag_at, missing, due};
+ghost use Rattle.gg_node.specs.Machine.{machine_at, latch_at, flag_at, missing};
+ghost use Rattle.gg_node.specs.inside.Machine.{due};
 ghost use Rattle.gg_node.specs.Token.{IsToken};
-ghost use Rattle.gg_node.specs.Step.{MayLatch, MayFire, MayServe, MayFinish, with_latch, with_flag, with_served};
-ghost use Rattle.gg_net.specs.Stations.{IsStationed, stationed, IsReplacedAt, HasGoneOn};
+ghost use Rattle.gg_node.specs.inside.Step.{MayLatch, MayFire, MayServe, MayFinish};
+ghost use Rattle.gg_node.specs.Step.{with_latch, with_flag, with_served};
+ghost use Rattle.gg_net.specs.inside.Stations.{IsStationed, stationed, IsReplacedAt, HasGoneOn};
 
 use crate::shape::Station;
 use gg_node::Host;

@@ -4,9 +4,10 @@ ghost use Rattle.gg_bits.specs.Limits.{cycle_limit};
 ghost use Rattle.gg_node.specs.Machine.{machine_at};
 ghost use Rattle.gg_net.specs.Network.{wire_at, queue_at, puts, takes, serves, frame_of};
 ghost use Rattle.gg_net.specs.Kept.{Kept};
-ghost use Rattle.gg_net.specs.Queue.{IsNewest};
-ghost use Rattle.gg_net.specs.Stations.{machines_by};
-ghost use Rattle.gg_net.specs.Net.{AreListed, AreOpen, AreParts, IsWithinLimits, Opens, joined, opening_net};
+ghost use Rattle.gg_net.specs.inside.Queue.{IsNewest};
+ghost use Rattle.gg_net.specs.inside.Stations.{machines_by};
+ghost use Rattle.gg_net.specs.inside.Net.{AreListed, AreOpen, AreParts, IsWithinLimits, Opens, joined};
+ghost use Rattle.gg_net.specs.Net.{opening_net};
 
 use crate::located;
 use crate::parts::Parts;
@@ -42,7 +43,7 @@ impl<H: Host + Drop, Z: Streams> Drop for Net<H, Z> {
 impl<H: Host, Z: Streams> Model for Net<H, Z> {
     ghost use Rattle.std.specs.Prelude.{map};
     ghost use Rattle.gg_net.specs.Network.{Network};
-    ghost use Rattle.gg_net.specs.Net.{net_of, IsNet};
+    ghost use Rattle.gg_net.specs.inside.Net.{net_of, IsNet};
 
     ghost Value = { Network };
 

@@ -1,6 +1,6 @@
 //! `Parts`: a network taken apart, and put together again.
 ghost use Rattle.std.specs.Prelude.{◌≡◌, map};
-ghost use Rattle.gg_net.specs.Net.{joined, AreParts};
+ghost use Rattle.gg_net.specs.inside.Net.{joined, AreParts};
 
 use crate::net::Net;
 use crate::queue::Queue;

@@ -2,7 +2,7 @@
 ghost use Rattle.std.specs.Prelude.{◌≡◌, ◌<◌, ◌≤◌, ◌++◌, ◌∷◌, [], length, drop, IfOk, Some, None};
 ghost use Rattle.gg_flat.specs.Line.{value_at};
 ghost use Rattle.gg_net.specs.Network.{opening_queue};
-ghost use Rattle.gg_net.specs.Queue.{IsNewest, held_of};
+ghost use Rattle.gg_net.specs.inside.Queue.{IsNewest, held_of};
 
 use std::alloc::{AllocError, Global};
 use std::collections::VecDeque;
@@ -21,7 +21,7 @@ impl Drop for Queue {
 }
 
 impl Model for Queue {
-    ghost use Rattle.gg_net.specs.Queue.{Held, held_of};
+    ghost use Rattle.gg_net.specs.inside.Queue.{Held, held_of};
 
     ghost Value = { Held };
 

@@ -1,9 +1,11 @@
 //! Facts about single machines and channels of a network.
 ghost use Rattle.std.specs.Prelude.{◌≡◌, ◌<◌, length, is_some, Some, MatchOption};
-ghost use Rattle.gg_node.specs.Machine.{machine_at, latch_at, flag_at, missing, due, first_empty};
-ghost use Rattle.gg_node.specs.Step.{AllFired, AllLatched};
+ghost use Rattle.gg_node.specs.Machine.{machine_at, latch_at, flag_at, missing, first_empty};
+ghost use Rattle.gg_node.specs.inside.Machine.{due};
+ghost use Rattle.gg_node.specs.Step.{AllFired};
+ghost use Rattle.gg_node.specs.inside.Step.{AllLatched};
 ghost use Rattle.gg_net.specs.Network.{wire_at, queue_at, IsAtIn, IsAtOut};
-ghost use Rattle.gg_net.specs.Readings.{due_fields, IsFirstClear, IsFirstEmpty};
+ghost use Rattle.gg_net.specs.inside.Readings.{due_fields, IsFirstClear, IsFirstEmpty};
 
 use crate::net::Net;
 use crate::shape::Wire;

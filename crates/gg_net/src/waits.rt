@@ -1,8 +1,9 @@
 //! What a machine of a host waits for: outs that haven't given their tokens, and ins that have none.
 ghost use Rattle.std.specs.Prelude.{◌≡◌, ◌<◌, All, length, MatchOption};
 ghost use Rattle.gg_node.specs.Machine.{machine_at, first_empty};
-ghost use Rattle.gg_node.specs.Step.{AllFired, AllLatched};
-ghost use Rattle.gg_net.specs.Readings.{IsFirstClear, IsFirstEmpty};
+ghost use Rattle.gg_node.specs.Step.{AllFired};
+ghost use Rattle.gg_node.specs.inside.Step.{AllLatched};
+ghost use Rattle.gg_net.specs.inside.Readings.{IsFirstClear, IsFirstEmpty};
 
 use gg_node::Host;
 

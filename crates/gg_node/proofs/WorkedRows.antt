@@ -13,7 +13,8 @@ use Rattle.gg_flat.specs.Settled.{Settled, driver_value}
 use Rattle.gg_flat.proofs.WorkedCircuits.{eight, node}
 use Rattle.gg_node.specs.Machine.{RunsPiece, Machine, latch_at, latched_value, missing, no_state, source_machine, tray_machine, kept_value}
 use Rattle.gg_node.specs.Token.{IsToken, IsNextState}
-use Rattle.gg_node.specs.Step.{MayFire, MayFinish, with_latch, with_flag, finished}
+use Rattle.gg_node.specs.inside.Step.{MayFire, MayFinish}
+use Rattle.gg_node.specs.Step.{with_latch, with_flag, finished}
 
 -- ---- a tray of two rows over three cycles
 

@@ -1,4 +1,4 @@
 pub mod Machine
 pub mod Token
 pub mod Step
-pub mod Tray
+pub mod inside

@@ -2,7 +2,7 @@
 -- Source: MEMOCODE 2009 (a bounded dataflow network: primitive nodes with a latch for each input and a flag for each
 -- output that was given in this cycle); ICCAD 2019 (units of a target in separate models; memories that a host serves
 -- port by port).
-use Rattle.std.specs.Prelude.{ℕ, ◌-◌, List, [], ◌∷◌, Option, Some, None, Bool, false, ◌&&◌, if◌then◌else◌, length, map, nat_le, nat_lt, replicate, slice_index_or, slice_get, ⊤}
+use Rattle.std.specs.Prelude.{ℕ, ◌-◌, List, [], ◌∷◌, Option, Some, None, Bool, false, ◌&&◌, if◌then◌else◌, length, map, nat_le, nat_lt, replicate, slice_index_or, slice_get}
 use Rattle.gg_flat.specs.Clock.{Ratio, edges_at}
 use Rattle.gg_flat.specs.Circuit.{FlatCircuit}
 use Rattle.gg_flat.specs.State.{State}
@@ -94,15 +94,6 @@ first_empty latches (i ∷ ins) = empty_or (latch_at latches i) i (first_empty l
 abbrev pub missing : Machine → ℕ → Option ℕ
 missing machine o = first_empty machine.latches (needs_at machine.needs o)
 
--- the number of a port, if there is one
-abbrev pub port_number : Option Port → Option ℕ
-port_number None = None
-port_number (Some port) = Some port.number
-
--- the number of the port that has to be served next; None if no port is left
-abbrev pub due : Machine → Option ℕ
-due machine = port_number (slice_get machine.ports machine.served)
-
 -- ---- the two machines without a piece
 
 -- a machine that gives a column; it is in this cycle, and its outs have these flags
@@ -113,12 +104,6 @@ source_machine column cycle flags = record { behaviour = GivesColumn column; lim
 -- values, and its only in has this latch
 abbrev pub tray_machine : ℕ → ℕ → ℕ → List ℕ → Option ℕ → Machine
 tray_machine rows limit cycle kept latch = record { behaviour = KeepsLast rows; limit = limit; ratios = []; needs = []; port_count = 0; ports = []; cycle = cycle; state = no_state; served = 0; latches = latch ∷ []; flags = []; kept = kept }
-
--- a machine keeps the last values that it gets
-abbrev pub IsTray : Behaviour → Type 0
-IsTray (RunsPiece piece) = ⊥
-IsTray (GivesColumn column) = ⊥
-IsTray (KeepsLast rows) = ⊤
 
 -- the first cycle whose value a machine still keeps; it keeps those of the last cycles before the one that it is in
 abbrev pub first_kept : Machine → ℕ

@@ -1,8 +1,10 @@
 //! `Host`: holds machines and does their steps.
 ghost use Rattle.std.specs.Prelude.{◌≡◌, ◌↔◌, ℕ, ◌<◌, List, length, is_some, slice_set, true};
-ghost use Rattle.gg_node.specs.Machine.{Machine, machine_at, latch_at, flag_at, missing, due};
+ghost use Rattle.gg_node.specs.Machine.{Machine, machine_at, latch_at, flag_at, missing};
+ghost use Rattle.gg_node.specs.inside.Machine.{due};
 ghost use Rattle.gg_node.specs.Token.{IsToken, IsNextState};
-ghost use Rattle.gg_node.specs.Step.{Wants, Gives, AllFired, AllLatched, MayLatch, MayFire, MayServe, MayFinish, with_latch, with_flag, with_served, finished};
+ghost use Rattle.gg_node.specs.inside.Step.{Wants, Gives, AllLatched, MayLatch, MayFire, MayServe, MayFinish};
+ghost use Rattle.gg_node.specs.Step.{AllFired, with_latch, with_flag, with_served, finished};
 
 /// Holds machines, one for each of its threads, and does their steps. Threads, ins and outs are given by their places.
 /// A call that does a step changes the machine of its thread, and no other. No call allocates.

@@ -1,8 +1,10 @@
 //! `Source`: a machine that gives the values of a column.
 ghost use Rattle.std.specs.Prelude.{◌≡◌, ℕ, ◌<◌, List, [], ◌∷◌, false, length, is_some, replicate, slice_set, IfOk};
-ghost use Rattle.gg_node.specs.Machine.{GivesColumn, Machine, machine_at, latch_at, flag_at, missing, due, source_machine};
+ghost use Rattle.gg_node.specs.Machine.{GivesColumn, Machine, machine_at, latch_at, flag_at, missing, source_machine};
+ghost use Rattle.gg_node.specs.inside.Machine.{due};
 ghost use Rattle.gg_node.specs.Token.{IsToken, IsNextState};
-ghost use Rattle.gg_node.specs.Step.{MayLatch, MayFire, MayServe, MayFinish, with_latch, with_flag, with_served, finished};
+ghost use Rattle.gg_node.specs.inside.Step.{MayLatch, MayFire, MayServe, MayFinish};
+ghost use Rattle.gg_node.specs.Step.{with_latch, with_flag, with_served, finished};
 
 use crate::host::Host;
 use crate::latches::clear_flags;

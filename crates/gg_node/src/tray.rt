@@ -2,9 +2,11 @@
 ghost use Rattle.std.specs.Prelude.{◌≡◌, ℕ, ◌<◌, ◌≤◌, List, [], ◌∷◌, None, IfOk, length, is_some, slice_set};
 ghost use Rattle.std.specs.VecDeque.{deque_capacity};
 ghost use Rattle.gg_bits.specs.Limits.{cycle_limit};
-ghost use Rattle.gg_node.specs.Machine.{IsTray, Machine, machine_at, latch_at, flag_at, missing, due, tray_machine, kept_value};
+ghost use Rattle.gg_node.specs.inside.Machine.{IsTray, due};
+ghost use Rattle.gg_node.specs.Machine.{Machine, machine_at, latch_at, flag_at, missing, tray_machine, kept_value};
 ghost use Rattle.gg_node.specs.Token.{IsToken, IsNextState};
-ghost use Rattle.gg_node.specs.Step.{MayLatch, MayFire, MayServe, MayFinish, with_latch, with_flag, with_served, kept_with, finished};
+ghost use Rattle.gg_node.specs.inside.Step.{MayLatch, MayFire, MayServe, MayFinish};
+ghost use Rattle.gg_node.specs.Step.{with_latch, with_flag, with_served, kept_with, finished};
 
 use crate::host::Host;
 use std::alloc::{AllocError, Global};
@@ -37,7 +39,7 @@ impl Drop for Tray {
 impl Model for Tray {
     ghost use Rattle.gg_bits.specs.Limits.{cycle_limit};
     ghost use Rattle.gg_node.specs.Machine.{Machine, tray_machine};
-    ghost use Rattle.gg_node.specs.Tray.{IsWindow};
+    ghost use Rattle.gg_node.specs.inside.Tray.{IsWindow};
 
     ghost Value = { Machine };
 

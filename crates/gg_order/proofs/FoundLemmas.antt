@@ -19,7 +19,7 @@ use Rattle.gg_flat.specs.WellFormed.{IsWellFormed}
 use Rattle.gg_flat.proofs.ListLemmas.{here, further, Contains-cases, Contains-filter, filter-cases, in-range, range-below}
 use Rattle.gg_flat.proofs.OrderLemmas.{stands-before}
 use Rattle.gg_graph.specs.Graph.{IsRing}
-use Rattle.gg_graph.specs.Walk.{IsChain}
+use Rattle.gg_graph.specs.inside.Walk.{IsChain}
 use Rattle.gg_graph.proofs.RingLemmas.{GoesRound-end, IsChain-push, once-drop}
 use Rattle.gg_order.specs.Found.{op_names, line_names, reads_of, is_placed, is_ready, placed_after, found_order}
 use Rattle.gg_order.proofs.LoopLemmas.{IsLoop-ring}

@@ -11,7 +11,8 @@ use Rattle.gg_flat.specs.Circuit.{FlatCircuit}
 use Rattle.gg_flat.specs.Reads.{Reads, ReadsInTurn, IsLoop}
 use Rattle.gg_flat.specs.Order.{IsOrder}
 use Rattle.gg_flat_tree.specs.Tree.{path_at}
-use Rattle.gg_graph.specs.Graph.{GoesTo, IsOrderOf, IsRing}
+use Rattle.gg_graph.specs.Graph.{GoesTo, IsRing}
+use Rattle.gg_graph.specs.inside.Graph.{IsOrderOf}
 use Rattle.gg_graph.proofs.RotationLemmas.{IsRing-rotate}
 use Rattle.gg_order.specs.Loop.{IsBefore, IsToldLoop}
 

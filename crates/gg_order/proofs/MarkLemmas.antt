@@ -7,7 +7,7 @@ use Rattle.gg_flat.specs.declared.line.Op.TheVariants.{Ref}
 use Rattle.gg_flat.specs.declared.piece.Driver.TheVariants.{Input}
 use Rattle.gg_flat.specs.declared.piece.Signal.{Signal}
 use Rattle.gg_flat.specs.Reads.{Names}
-use Rattle.gg_order.specs.Marks.{driver_of, Marks}
+use Rattle.gg_order.specs.inside.Marks.{driver_of, Marks}
 
 -- one set of marks after another
 pub Marks-then : (P Q R : ℕ → Type 0) (a b c : List Bool) → ((s : ℕ) → P s → R s) → ((s : ℕ) → Q s → R s) → ((s : ℕ) → R s → P s ⊎ Q s) → Marks P a b → Marks Q b c → Marks R a c

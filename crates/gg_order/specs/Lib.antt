@@ -1,8 +1,7 @@
 pub mod Design
-pub mod Fault
 pub mod Found
 pub mod Loop
 pub mod Marks
-pub mod Places
 pub mod runs
 pub mod needs
+pub mod inside

@@ -1,4 +1,1 @@
 pub mod Needs
-pub mod Groups
-pub mod Marks
-pub mod Walk

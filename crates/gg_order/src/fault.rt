@@ -15,7 +15,7 @@ pub enum OrderFault {
 
 impl fmt::Display for OrderFault {
     ghost use Rattle.std.specs.Prelude.{Some};
-    ghost use Rattle.gg_order.specs.Fault.{fault_text};
+    ghost use Rattle.gg_order.specs.inside.Fault.{fault_text};
 
     ghost output = { λ fault. Some (fault_text fault) };
 

@@ -1,7 +1,7 @@
 //! A flat circuit as a directed graph: from each signal an edge leads to each signal that it reads.
 ghost use Rattle.std.specs.Prelude.{◌≡◌, ℕ, ◌<◌, ◌⊎◌, length, take, IfSome, IfNone};
 ghost use Rattle.gg_flat.specs.Reads.{Names, NamesSignal};
-ghost use Rattle.gg_order.specs.Places.{NamesBelow};
+ghost use Rattle.gg_order.specs.inside.Places.{NamesBelow};
 
 use gg_flat::{Driver, Node, Op, Piece};
 use gg_graph::{Graph, Target};
@@ -27,7 +27,7 @@ impl<'a> Model for Dependencies<'a> {
 impl<'a> Graph for Dependencies<'a> {
     ghost use Rattle.std.specs.Prelude.{length};
     ghost use Rattle.gg_flat.specs.Reads.{Reads};
-    ghost use Rattle.gg_order.specs.Places.{ReadsBelow, none_below_first};
+    ghost use Rattle.gg_order.specs.inside.Places.{ReadsBelow, none_below_first};
 
     ghost nodes = { λ graph. length graph.signals };
 

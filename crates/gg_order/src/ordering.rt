@@ -3,7 +3,7 @@ ghost use Rattle.std.specs.Prelude.{◌≡◌, ℕ, List, IfOk, IfErr};
 ghost use Rattle.gg_flat.specs.Order.{IsOrder};
 ghost use Rattle.gg_flat.specs.Reads.{IsLoop};
 ghost use Rattle.gg_flat.specs.WellFormed.{IsWellFormed};
-ghost use Rattle.gg_order.specs.Fault.{IfLoop};
+ghost use Rattle.gg_order.specs.inside.Fault.{IfLoop};
 ghost use Rattle.gg_order.specs.Loop.{IsToldLoop};
 
 use crate::fault::OrderFault;

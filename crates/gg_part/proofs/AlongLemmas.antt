@@ -15,7 +15,8 @@ use Rattle.gg_flat.proofs.OrderLemmas.{read-before, not-before, place-of}
 use Rattle.gg_flat.proofs.ListLemmas.{once-apart}
 use Rattle.gg_part.specs.Part.{IsPart, IsFrom}
 use Rattle.gg_flat.proofs.RenamedLineLaws.{named-there}
-use Rattle.gg_flat.specs.InOrder.{Precedes, IsAlong, IsInOrder}
+use Rattle.gg_flat.specs.inside.InOrder.{Precedes, IsAlong}
+use Rattle.gg_flat.specs.InOrder.{IsInOrder}
 
 -- s is a signal of the part, and the driver names the whole's signal that it stands for
 pub record IsNamedIn (globals : List ℕ) (driver : Driver) (s : ℕ) : Type 0 where

@@ -9,18 +9,20 @@ use Rattle.gg_flat.specs.declared.piece.Register.{Register}
 use Rattle.gg_flat.specs.declared.piece.Driver.{Driver}
 use Rattle.gg_flat.specs.declared.piece.Driver.TheVariants.{Input, Held, MemoryWord, ReadRegister, Computed}
 use Rattle.gg_flat.specs.Reads.{NamesSignal}
-use Rattle.gg_part.specs.Choice.{NamesMemory}
+use Rattle.gg_part.specs.inside.Choice.{NamesMemory}
 use Rattle.gg_flat.specs.Line.{value_at}
 use Rattle.gg_flat_tree.specs.Clocked.{clock_at}
 use Rattle.gg_flat_tree.specs.Scoped.{reader_fields, writer_fields}
-use Rattle.gg_part.specs.Numbers.{ArePlaces}
-use Rattle.gg_part.specs.Local.{own_by}
-use Rattle.gg_part.specs.Part.{IsFrom, in_whole, NamesBelow, RegisterBelow, ReadsAmong}
+use Rattle.gg_part.specs.inside.Numbers.{ArePlaces}
+use Rattle.gg_part.specs.inside.Local.{own_by}
+use Rattle.gg_part.specs.Part.{IsFrom, in_whole, NamesBelow, RegisterBelow}
+use Rattle.gg_part.specs.inside.Part.{ReadsAmong}
 use Rattle.gg_flat.specs.Memory.{WritesAmong}
 use Rattle.gg_flat.specs.Named.{NamesOnly, RegisterNamesOnly}
 use Rattle.gg_flat.proofs.RenamedLineLaws.{line-agree, line-same, line-twice, only-there}
 use Rattle.gg_flat.proofs.RenamedLaws.{register-agree, register-only, register-same, register-twice, reader-agree, writer-agree}
-use Rattle.gg_flat.specs.Renaming.{Renaming, one_by_one, renamed_driver, renamed_line, renamed_reader, renamed_register, renamed_writer, same_numbers}
+use Rattle.gg_flat.specs.Renaming.{Renaming, renamed_driver, renamed_line, renamed_reader, renamed_register, renamed_writer}
+use Rattle.gg_flat.specs.inside.Renaming.{one_by_one, same_numbers}
 
 -- what leads back from each of these numbers to a place where it stands
 pub record LeadsBack (globals : List ℕ) (back : ℕ → ℕ) : Type 0 where

@@ -14,7 +14,7 @@ use Rattle.gg_flat.specs.declared.piece.Register.{Register}
 use Rattle.gg_flat.specs.declared.memory.Memory.{Memory}
 use Rattle.gg_flat.proofs.ListLemmas.{once-apart}
 use Rattle.gg_part.specs.Part.{RegisterBelow, MemoryBelow, in_whole}
-use Rattle.gg_part.specs.Building.{IsDriven, IsAdded, AreSignals, AreRegisters, AreMemories}
+use Rattle.gg_part.specs.inside.Building.{IsDriven, IsAdded, AreSignals, AreRegisters, AreMemories}
 use Rattle.gg_flat.specs.Renaming.{renamed_memory, renamed_register}
 
 -- ---- one more of a list

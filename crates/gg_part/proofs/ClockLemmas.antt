@@ -6,7 +6,7 @@ use Rattle.std.proofs.lemmas.List.{length-append, length-map, get_or_append_left
 use Rattle.gg_flat.specs.declared.memory.Memory.{Memory}
 use Rattle.gg_flat.specs.declared.memory.Reader.{Reader}
 use Rattle.gg_flat.specs.declared.memory.Writer.{Writer}
-use Rattle.gg_part.specs.Clocking.{LeadsTo, PortsFollow, clocks_of_ports}
+use Rattle.gg_part.specs.inside.Clocking.{LeadsTo, PortsFollow, clocks_of_ports}
 
 -- it does so by equal lists and clocks
 pub leads-same : {clocks clocks' : List (Option ℕ)} {there there' own own' : Option ℕ} → clocks ≡ clocks' → there ≡ there' → own ≡ own' → LeadsTo clocks there own → LeadsTo clocks' there' own'

@@ -7,12 +7,13 @@ use Rattle.std.proofs.Math.Seq.{get_or-append_seam}
 use Rattle.std.proofs.lemmas.Option.{same_Some}
 use Rattle.gg_flat_tree.specs.declared.tree.Instance.{Instance}
 use Rattle.gg_flat.specs.Circuit.{FlatCircuit}
-use Rattle.gg_flat_tree.specs.Clocked.{AreParentsBefore, clock_at, clocks_from, through_parent, top_clocks}
+use Rattle.gg_flat_tree.specs.inside.Clocked.{AreParentsBefore}
+use Rattle.gg_flat_tree.specs.Clocked.{clock_at, clocks_from, through_parent, top_clocks}
 use Rattle.gg_flat_tree.specs.Tree.{InstanceTree, instance_at}
 use Rattle.gg_flat.specs.WellFormed.{IsClock}
 use Rattle.gg_flat_tree.proofs.TopClockLemmas.{top_clocks-step}
 use Rattle.gg_part.specs.Copies.{IsCopy, LiesIn, Start, above}
-use Rattle.gg_part.specs.Domains.{alone, apart_from, inner_clocks, tree_apart}
+use Rattle.gg_part.specs.inside.Domains.{alone, apart_from, inner_clocks, tree_apart}
 use Rattle.gg_part.specs.Moved.{shifted}
 
 -- ---- lists of clocks

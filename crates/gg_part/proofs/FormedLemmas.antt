@@ -16,7 +16,8 @@ use Rattle.gg_flat.specs.Circuit.{FlatCircuit, signal_shapes, driver_at, readers
 use Rattle.gg_flat_tree.specs.Tree.{path_at}
 use Rattle.gg_flat.specs.WellFormed.{IsDataOf, MayDrive, IsRegister, IsMemory, IsClock, IsClockedMemory, IsWellFormed, reader_driver}
 use Rattle.gg_flat.proofs.ListLemmas.{some-item, once-apart}
-use Rattle.gg_part.specs.Part.{IsPart, IsFrom, in_whole, NamesBelow, RegisterBelow, MemoryBelow, ReadsAmong}
+use Rattle.gg_part.specs.Part.{IsPart, IsFrom, in_whole, NamesBelow, RegisterBelow, MemoryBelow}
+use Rattle.gg_part.specs.inside.Part.{ReadsAmong}
 use Rattle.gg_flat.proofs.RenamedLineLaws.{IsTypedBack, source-back}
 use Rattle.gg_flat.proofs.RenamedLaws.{register-back, memory-back, memory-weaken}
 use Rattle.gg_part.proofs.RunLemmas.{shape-part, length-shapes}

@@ -18,7 +18,7 @@ use Rattle.gg_flat.specs.Circuit.{FlatCircuit, driver_at, readers_at}
 use Rattle.gg_flat.specs.Reads.{RegisterNames}
 use Rattle.gg_flat_tree.specs.Scoped.{reader_fields, writer_fields, writers_at, memory_fields}
 use Rattle.gg_flat.specs.WellFormed.{MayDrive, IsWellFormed}
-use Rattle.gg_part.specs.Choice.{IsChoice}
+use Rattle.gg_part.specs.inside.Choice.{IsChoice}
 use Rattle.gg_part.specs.Building.{Holds, IsHeldIn, AreHeld}
 
 -- there are at most n distinct numbers below n

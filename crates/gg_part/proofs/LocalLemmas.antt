@@ -10,9 +10,10 @@ use Rattle.gg_flat.specs.WellFormed.{IsClock, IsClockedMemory}
 use Rattle.gg_flat.specs.Renaming.{renamed_reader as reader_by, renamed_writer as writer_by, renamed_memory, renamed_reader, renamed_writer}
 use Rattle.gg_flat.proofs.ListLemmas.{some-item}
 use Rattle.gg_flat_tree.specs.Scoped.{reader_fields, writer_fields}
-use Rattle.gg_part.specs.Clocking.{LeadsTo, PortsFollow, clocks_of_ports}
-use Rattle.gg_part.specs.Local.{own_by, own_memory}
-use Rattle.gg_part.specs.Part.{ReadsAmong, MemoryBelow, in_whole}
+use Rattle.gg_part.specs.inside.Clocking.{LeadsTo, PortsFollow, clocks_of_ports}
+use Rattle.gg_part.specs.inside.Local.{own_by, own_memory}
+use Rattle.gg_part.specs.inside.Part.{ReadsAmong}
+use Rattle.gg_part.specs.Part.{MemoryBelow, in_whole}
 use Rattle.gg_bits.specs.Lists.{by_number}
 use Rattle.gg_part.proofs.BackLemmas.{LeadsBack, reader-back, reader-below, writer-back, writer-below}
 use Rattle.gg_part.proofs.ClockLemmas.{port-count, port-reader, port-writer, ports-follow}

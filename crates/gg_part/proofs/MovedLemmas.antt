@@ -10,10 +10,11 @@ use Rattle.gg_flat.specs.declared.piece.Driver.TheVariants.{Input, Held, MemoryW
 use Rattle.gg_flat.specs.declared.piece.Register.{Register}
 use Rattle.gg_flat.specs.Circuit.{FlatCircuit, signal_shapes, driver_at}
 use Rattle.gg_flat.specs.Line.{shape_at, value_at}
-use Rattle.gg_flat.specs.Renaming.{Renaming, one_by_one, signals_by, numbers_by, renamed_driver, renamed_line, renamed_memory, renamed_register}
+use Rattle.gg_flat.specs.Renaming.{Renaming, signals_by, numbers_by, renamed_driver, renamed_line, renamed_memory, renamed_register}
+use Rattle.gg_flat.specs.inside.Renaming.{one_by_one}
 use Rattle.gg_flat.proofs.RenamedLineLaws.{line-agree, line-twice}
 use Rattle.gg_flat.proofs.RenamedLaws.{AgreeAt, AgreeOn, register-agree, register-twice, memory-agree, memory-twice, memory-weaken, follows-each}
-use Rattle.gg_part.specs.StandsAgain.{StandsAgain, placed_at}
+use Rattle.gg_part.specs.inside.StandsAgain.{StandsAgain, placed_at}
 use Rattle.gg_part.specs.Part.{IsPart, IsFrom, in_whole, NamesBelow, RegisterBelow, MemoryBelow}
 
 value-map : (f : ℕ → ℕ) (xs : List ℕ) (k : ℕ) → k < length xs → value_at (map f xs) k ≡ f (value_at xs k)

@@ -13,9 +13,10 @@ use Rattle.gg_flat_tree.specs.Tree.{path_at}
 use Rattle.gg_flat.specs.WellFormed.{IsWellFormed}
 use Rattle.gg_flat.proofs.ListLemmas.{some-item, once-apart}
 use Rattle.gg_part.specs.Part.{IsPart, IsFrom, in_whole}
-use Rattle.gg_part.specs.Choice.{IsChoice}
-use Rattle.gg_part.specs.Building.{AreHeld, AreSignals, AreRegisters, AreMemories}
-use Rattle.gg_part.specs.Clocking.{AreTimed}
+use Rattle.gg_part.specs.inside.Choice.{IsChoice}
+use Rattle.gg_part.specs.Building.{AreHeld}
+use Rattle.gg_part.specs.inside.Building.{AreSignals, AreRegisters, AreMemories}
+use Rattle.gg_part.specs.inside.Clocking.{AreTimed}
 use Rattle.gg_part.proofs.FrameLemmas.{held-within}
 use Rattle.gg_flat.specs.Renaming.{renamed_memory, renamed_reader}
 

@@ -4,7 +4,7 @@ use Rattle.std.specs.Prelude.{All}
 use Rattle.std.proofs.lemmas.Bool.{cases_eq, cases_lt}
 use Rattle.std.proofs.lemmas.List.{get_or-set_same, get_or-set_other, length-set}
 use Rattle.gg_flat.specs.Line.{value_at}
-use Rattle.gg_part.specs.Numbers.{ArePlaces}
+use Rattle.gg_part.specs.inside.Numbers.{ArePlaces}
 
 pub ArePlaces-none : (items places : List ℕ) → ArePlaces items 0 places
 ArePlaces-none items places = record { known = λ k lt. absurd (omega arith); within = λ k lt. absurd (omega arith); found = λ k lt. absurd (omega arith) }

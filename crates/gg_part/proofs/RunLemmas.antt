@@ -22,7 +22,8 @@ use Rattle.gg_flat.proofs.TypedLemmas.{shape_at-in_shapes}
 use Rattle.gg_flat.proofs.StateLemmas.{IsState-opening}
 use Rattle.gg_flat.proofs.ListLemmas.{some-item}
 use Rattle.gg_part.specs.Part.{IsPart, IsFrom, in_whole}
-use Rattle.gg_part.specs.PartRun.{part_row, part_rows, part_state, part_ratios, part_start, part_columns}
+use Rattle.gg_part.specs.PartRun.{part_row, part_rows, part_state, part_ratios, part_start}
+use Rattle.gg_part.specs.inside.PartRun.{part_columns}
 use Rattle.gg_part.proofs.RenameLemmas.{part_row-at, connected-renamed, register-renamed, bank-renamed, ticks-part}
 use Rattle.gg_flat.proofs.RenamedLaws.{opening-renamed}
 use Rattle.gg_flat.specs.Renaming.{renamed_memory, renamed_register}

@@ -19,7 +19,7 @@ use Rattle.gg_flat.proofs.WorkedCircuits.{one, eight, nine, node, value, counter
 use Rattle.gg_flat.proofs.WorkedForms.{only, both, three, five, pair, apart, other, same}
 use Rattle.gg_flat.proofs.WorkedMemories.{signal, ports}
 use Rattle.gg_part.specs.Part.{IsPart, IsFrom, IsRegisterFrom}
-use Rattle.gg_part.specs.Choice.{IsChoice, NamesMemory}
+use Rattle.gg_part.specs.inside.Choice.{IsChoice, NamesMemory}
 
 -- ---- the counter's register
 

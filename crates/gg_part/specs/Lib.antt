@@ -1,14 +1,7 @@
 pub mod Part
-pub mod Local
 pub mod PartRun
-pub mod Choice
-pub mod Numbers
 pub mod Building
-pub mod Clocking
-pub mod RunsOfParts
 pub mod Copies
-pub mod Domains
 pub mod KeepsToTree
 pub mod Moved
-pub mod StandsAgain
-pub mod PartsMove
+pub mod inside

@@ -4,20 +4,20 @@
 -- 2009 (a synchronous design as a network of its parts).
 use Rattle.std.specs.Prelude.{◌≡◌, ◌≢◌, ℕ, ◌<◌, List, Option, length, map, slice_index_or, AllPairs}
 use Rattle.gg_flat.specs.declared.line.Node.{Node}
-use Rattle.gg_flat.specs.declared.memory.Reader.{Reader}
 use Rattle.gg_flat.specs.declared.memory.Memory.{Memory}
 use Rattle.gg_flat.specs.declared.piece.Register.{Register}
 use Rattle.gg_flat.specs.declared.piece.Driver.{Driver}
 use Rattle.gg_flat.specs.declared.piece.Driver.TheVariants.{Input, Held, MemoryWord, ReadRegister, Computed}
 use Rattle.gg_flat.specs.Line.{shape_at, value_at}
 use Rattle.gg_flat.specs.Circuit.{FlatCircuit, signal_shapes, driver_at, readers_at, reader_at}
-use Rattle.gg_flat.specs.Named.{NamesOnly, RegisterNamesOnly, ReaderNamesOnly, MemoryNamesOnly}
+use Rattle.gg_flat.specs.Named.{NamesOnly, RegisterNamesOnly, MemoryNamesOnly}
 use Rattle.gg_flat.specs.Renaming.{Renaming, renamed_line, renamed_memory, renamed_register}
 use Rattle.gg_flat_tree.specs.Clocked.{clock_at}
 use Rattle.gg_flat_tree.specs.Tree.{path_at}
 use Rattle.gg_flat.specs.WellFormed.{IsClock, IsClockedMemory}
 
 -- ---- the part's things in the numbers of the whole; `globals` has the number in the whole of each signal of the
+
 -- part, and `clocks` the clock of the whole that each clock of the part follows, if any
 
 -- the numbers in the whole of what the part has
@@ -33,10 +33,6 @@ NamesBelow n line = NamesOnly (λ s. s < n) line
 -- a register names only signals below n
 abbrev pub RegisterBelow : ℕ → Register → Type 0
 RegisterBelow n register = RegisterNamesOnly (λ s. s < n) register
-
--- the fields of a reader are below n
-abbrev pub ReadsAmong : ℕ → Reader → Type 0
-ReadsAmong n reader = ReaderNamesOnly (λ s. s < n) reader
 
 -- a memory's fields are below n
 abbrev pub MemoryBelow : ℕ → Memory → Type 0

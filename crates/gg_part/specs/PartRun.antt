@@ -3,10 +3,9 @@
 use Rattle.std.specs.Prelude.{ℕ, List, [], ◌∷◌, Option, Some, None, map, slice_index_or}
 use Rattle.gg_flat.specs.Clock.{Ratio}
 use Rattle.gg_flat.specs.Line.{value_at}
-use Rattle.gg_flat.specs.Circuit.{FlatCircuit}
 use Rattle.gg_flat.specs.Memory.{bank_at}
 use Rattle.gg_flat.specs.State.{State}
-use Rattle.gg_flat.specs.Run.{Start, column}
+use Rattle.gg_flat.specs.Run.{Start}
 
 -- the values of the part's signals in a row of the whole
 abbrev pub part_row : List ℕ → List ℕ → List ℕ
@@ -33,7 +32,3 @@ part_ratios clocks (ratio ∷ ratios) = map (ratio_at (ratio ∷ ratios)) clocks
 -- where the part's run starts, if the run of the whole starts here
 abbrev pub part_start : List ℕ → List ℕ → List (Option ℕ) → Start → Start
 part_start held memories clocks start = record { cycle = start.cycle; state = part_state held memories start.state; ratios = part_ratios clocks start.ratios }
-
--- the columns of the part's in-signals in the rows of the whole
-abbrev pub part_columns : List ℕ → FlatCircuit → List (List ℕ) → List (List ℕ)
-part_columns globals part rows = map (λ s. column rows (value_at globals s)) part.ins

@@ -8,9 +8,10 @@ ghost use Rattle.gg_flat.specs.Reads.{NamesSignal};
 ghost use Rattle.gg_flat_tree.specs.Tree.{path_at};
 ghost use Rattle.gg_flat.specs.WellFormed.{IsWellFormed};
 ghost use Rattle.gg_part.specs.Part.{IsFrom, IsPart};
-ghost use Rattle.gg_part.specs.Choice.{NamesMemory, IsChoice};
-ghost use Rattle.gg_part.specs.Building.{AreHeld, IsDriven, IsAdded, AreSignals, AreRegisters, AreMemories};
-ghost use Rattle.gg_part.specs.Clocking.{AreTimed, IsTimed, MemoriesFollow, RegistersFollow};
+ghost use Rattle.gg_part.specs.inside.Choice.{NamesMemory, IsChoice};
+ghost use Rattle.gg_part.specs.Building.{AreHeld};
+ghost use Rattle.gg_part.specs.inside.Building.{IsDriven, IsAdded, AreSignals, AreRegisters, AreMemories};
+ghost use Rattle.gg_part.specs.inside.Clocking.{AreTimed, IsTimed, MemoriesFollow, RegistersFollow};
 
 use crate::frame::{Frame, driver_of, frame_of};
 use crate::numbers::Numbers;

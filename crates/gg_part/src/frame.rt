@@ -2,9 +2,9 @@
 ghost use Rattle.std.specs.Prelude.{◌≡◌, ℕ, ◌<◌, ◌≤◌, List, [], length, vec_len, IfOk, IfSome, IfNone, All, Contains};
 ghost use Rattle.gg_flat.specs.Circuit.{driver_at};
 ghost use Rattle.gg_flat.specs.WellFormed.{IsWellFormed};
-ghost use Rattle.gg_part.specs.Choice.{IsChoice};
+ghost use Rattle.gg_part.specs.inside.Choice.{IsChoice};
 ghost use Rattle.gg_part.specs.Building.{Holds, AreHeld};
-ghost use Rattle.gg_part.specs.Numbers.{ArePlaces};
+ghost use Rattle.gg_part.specs.inside.Numbers.{ArePlaces};
 
 use crate::numbers::Numbers;
 use crate::part::Part;

@@ -1,7 +1,7 @@
 //! `Numbers`: numbers of the whole circuit, each with its place.
 ghost use Rattle.std.specs.Prelude.{◌≡◌, ℕ, ◌<◌, ◌≤◌, ◌^◌, length, replicate, IfOk, IfSome, IfNone, All, Contains};
 ghost use Rattle.gg_flat.specs.Line.{value_at};
-ghost use Rattle.gg_part.specs.Numbers.{ArePlaces};
+ghost use Rattle.gg_part.specs.inside.Numbers.{ArePlaces};
 
 use gg_bits::Ids;
 use std::alloc::{AllocError, Global};
@@ -25,7 +25,7 @@ impl Drop for Numbers {
 
 impl Model for Numbers {
     ghost use Rattle.std.specs.Prelude.{List, ℕ, length};
-    ghost use Rattle.gg_part.specs.Numbers.{ArePlaces};
+    ghost use Rattle.gg_part.specs.inside.Numbers.{ArePlaces};
 
     ghost Value = { List ℕ };
 

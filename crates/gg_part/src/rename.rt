@@ -1,7 +1,7 @@
 //! The memories of a part: those of the whole circuit, in the part's numbers.
 ghost use Rattle.std.specs.Prelude.{◌≡◌, ◌+◌, ◌^◌, ◌<◌, None, length, slice_index_or, IfOk};
 ghost use Rattle.gg_flat.specs.Line.{value_at};
-ghost use Rattle.gg_part.specs.Local.{own_readers, own_writers, own_memory};
+ghost use Rattle.gg_part.specs.inside.Local.{own_readers, own_writers, own_memory};
 
 use gg_flat::{Lists, Memory, Reader, Readers, Writer, Writers, renamed_reader, renamed_writer};
 use std::alloc::{AllocError, Global};

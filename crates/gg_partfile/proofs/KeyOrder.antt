@@ -13,7 +13,7 @@ use Rattle.json.specs.Json as json
 use Rattle.serde_json.specs.Data.{Data, null, boolean, number, string, array, object, Items, no_items, item, Members, no_members, member, put}
 use Rattle.serde_json.specs.Find.{get, get_member}
 use Rattle.serde_json.specs.Read.{number_of, of_json, of_items, of_members, max_depth, read}
-use Rattle.gg_partfile.specs.Order.{IsBefore, IsLeastUnknown}
+use Rattle.gg_partfile.specs.inside.Order.{IsBefore, IsLeastUnknown}
 use Rattle.gg_partfile.specs.Keys.{key_names, is_known, unknown, held, or_default, under}
 use Rattle.gg_partfile.specs.Partition.{IsPartition}
 use Rattle.gg_partfile.specs.Shapes.{whole, ratio, each_member, named, other_member}

@@ -5,7 +5,7 @@ ghost use Rattle.serde_json.specs.Read.{read};
 ghost use Rattle.gg_partfile.specs.Keys.{unknown};
 ghost use Rattle.gg_partfile.specs.Partition.{IsPartition};
 ghost use Rattle.gg_partfile.specs.Fault.{IsRefused};
-ghost use Rattle.gg_partfile.specs.Order.{IsBefore, IsLeastUnknown};
+ghost use Rattle.gg_partfile.specs.inside.Order.{IsBefore, IsLeastUnknown};
 ghost use Rattle.gg_partfile.specs.declared.request.Request.{Request};
 
 /// Bytes hold at most one request, or are refused with one key, but never both.

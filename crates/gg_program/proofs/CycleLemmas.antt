@@ -18,9 +18,11 @@ use Rattle.gg_flat.proofs.TypedLemmas.{shape_at-in_shapes, AreTyped-zeros, AreTy
 use Rattle.gg_flat.specs.InOrder.{IsInOrder}
 use Rattle.gg_order.specs.Marks.{is_marked}
 use Rattle.gg_order.proofs.NeedsLemmas.ReachLemmas.{Reaches-on, Reaches-within, along-reaches}
-use Rattle.gg_program.specs.Slots.{Slotted, IsDone, NoneDone, AreSlots, HasInput, HasInputs, HasNeeded, with_input, inputs_in, DoneWith}
-use Rattle.gg_program.specs.Right.{AreRight, InCycle, IsInner}
-use Rattle.gg_program.specs.Search.{Searched, IsGathered, IsFull, StandBehind}
+use Rattle.gg_program.specs.Slots.{Slotted, IsDone, NoneDone, AreSlots, HasInput, HasInputs, HasNeeded, inputs_in, DoneWith}
+use Rattle.gg_program.specs.inside.Slots.{with_input}
+use Rattle.gg_program.specs.Right.{AreRight, InCycle}
+use Rattle.gg_program.specs.inside.Right.{IsInner}
+use Rattle.gg_program.specs.inside.Search.{Searched, IsGathered, IsFull, StandBehind}
 use Rattle.gg_program.proofs.SearchLemmas.{mark-more, mark-cases, marked-within}
 use Rattle.gg_program.proofs.RightLemmas.{AreRight-same, AreRight-none, AreRight-put}
 

@@ -18,8 +18,9 @@ use Rattle.gg_flat.proofs.TypedLemmas.{AreTyped-set}
 use Rattle.gg_flat.specs.InOrder.{IsInOrder}
 use Rattle.gg_order.specs.Marks.{is_marked}
 use Rattle.gg_program.specs.Slots.{inputs_in}
-use Rattle.gg_program.specs.Right.{AreRight, IsInner}
-use Rattle.gg_program.specs.Search.{StandBehind}
+use Rattle.gg_program.specs.Right.{AreRight}
+use Rattle.gg_program.specs.inside.Right.{IsInner}
+use Rattle.gg_program.specs.inside.Search.{StandBehind}
 use Rattle.gg_program.proofs.RightLemmas.{inputs-inner, AreRight-same, AreRight-more}
 
 -- there is a value for each signal

@@ -7,9 +7,9 @@ use Rattle.gg_flat.specs.Line.{value_at}
 use Rattle.gg_flat.specs.Circuit.{FlatCircuit, driver_at}
 use Rattle.gg_flat.specs.Reads.{Reads, NamesSignal, Reaches}
 use Rattle.gg_order.specs.Marks.{is_marked}
-use Rattle.gg_order.specs.needs.Walk.{IsClosed}
+use Rattle.gg_order.specs.inside.Walk.{IsClosed}
 use Rattle.gg_order.proofs.NeedsLemmas.ReachLemmas.{Reaches-itself, Reaches-on, along-reaches}
-use Rattle.gg_program.specs.Search.{Searched, Finds, IsGathered}
+use Rattle.gg_program.specs.inside.Search.{Searched, Finds, IsGathered}
 use Rattle.gg_program.proofs.SearchLemmas.{unmarked-before}
 
 -- The list's first places were looked at: the signals that are read there are marked.

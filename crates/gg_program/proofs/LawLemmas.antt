@@ -2,7 +2,8 @@
 use Rattle.std.proofs.Common.{◌≡◌, ℕ, List, sym, ◌∙◌}
 use Rattle.gg_flat.specs.Circuit.{FlatCircuit}
 use Rattle.gg_flat.specs.State.{State}
-use Rattle.gg_program.specs.ConeValue.{NeedsAlike, IsConeValue}
+use Rattle.gg_program.specs.inside.ConeValue.{NeedsAlike}
+use Rattle.gg_program.specs.ConeValue.{IsConeValue}
 
 pub cone-once : (circuit : FlatCircuit) (state : State) (inputs : List ℕ) (out value other : ℕ) → IsConeValue circuit state inputs out value → IsConeValue circuit state inputs out other → value ≡ other
 cone-once circuit state inputs out value other a b = sym (a.every a.some.others a.some.row a.some.settled a.some.needs) ∙ b.every a.some.others a.some.row a.some.settled a.some.needs

@@ -12,12 +12,14 @@ use Rattle.gg_flat.specs.Circuit.{FlatCircuit, signal_shapes, driver_at}
 use Rattle.gg_flat.specs.Reads.{Reads, NamesSignal}
 use Rattle.gg_flat.specs.WellFormed.{IsWellFormed, MayDrive}
 use Rattle.gg_flat.specs.State.{State}
-use Rattle.gg_flat.specs.Settled.{IsInputs, HasSource, in_shapes, driver_value}
+use Rattle.gg_flat.specs.Settled.{IsInputs, in_shapes, driver_value}
+use Rattle.gg_flat.specs.inside.Settled.{HasSource}
 use Rattle.gg_order.proofs.RunsLemmas.AgreeLemmas.{driver_value-agree}
 use Rattle.gg_flat.proofs.TypedLemmas.{shape_at-in_shapes}
 use Rattle.gg_flat.specs.InOrder.{IsInOrder}
 use Rattle.gg_program.specs.Slots.{inputs_in}
-use Rattle.gg_program.specs.Right.{AreRight, IsInner}
+use Rattle.gg_program.specs.Right.{AreRight}
+use Rattle.gg_program.specs.inside.Right.{IsInner}
 
 -- ---- drivers that aren't inputs
 

@@ -16,7 +16,7 @@ use Rattle.gg_flat.specs.Line.{value_at}
 use Rattle.gg_flat.specs.Reads.{Names}
 use Rattle.gg_flat.proofs.NameLemmas.{Contains-one, Names-push, Names-new, Names-push_cases}
 use Rattle.gg_order.specs.Marks.{is_marked}
-use Rattle.gg_program.specs.Search.{Searched, IsListed, IsFull, Finds}
+use Rattle.gg_program.specs.inside.Search.{Searched, IsListed, IsFull, Finds}
 
 -- ---- marks
 

@@ -7,11 +7,13 @@ use Rattle.gg_flat.specs.declared.piece.Driver.TheVariants.{Input, Held, MemoryW
 use Rattle.gg_flat.specs.Line.{value_at}
 use Rattle.gg_flat.specs.Circuit.{FlatCircuit, driver_at}
 use Rattle.gg_order.specs.Marks.{is_marked}
-use Rattle.gg_program.specs.Slots.{Slotted, IsDone, with_input}
+use Rattle.gg_program.specs.Slots.{Slotted, IsDone}
+use Rattle.gg_program.specs.inside.Slots.{with_input}
 use Rattle.gg_program.proofs.SearchLemmas.{mark-more}
-use Rattle.gg_program.specs.Search.{Searched, IsGathered}
-use Rattle.gg_program.specs.Right.{IsInner}
-use Rattle.gg_program.specs.Unset.{is_assignment, waits, unset_among, unset, assignments}
+use Rattle.gg_program.specs.inside.Search.{Searched, IsGathered}
+use Rattle.gg_program.specs.inside.Right.{IsInner}
+use Rattle.gg_program.specs.Unset.{is_assignment, waits, unset_among, unset}
+use Rattle.gg_program.specs.inside.Unset.{assignments}
 use Rattle.gg_bits.specs.Lists.{one_if, count_below}
 
 -- ---- numbers that pass a test

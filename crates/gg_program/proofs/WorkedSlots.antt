@@ -9,7 +9,8 @@ use Rattle.gg_flat.specs.Settled.{driver_value}
 use Rattle.gg_flat.proofs.WorkedForms.{both, four}
 use Rattle.gg_order.proofs.NeedsLemmas.ReachLemmas.{Reaches-itself, along-reaches}
 use Rattle.gg_order.proofs.NeedsLemmas.WorkedUnits.{unit, q-k, In, copies, in-closed, p-k}
-use Rattle.gg_program.specs.Slots.{Slotted, IsDone, HasInput, HasNeeded, HasInputs, with_input, DoneWith, inputs_in}
+use Rattle.gg_program.specs.Slots.{Slotted, IsDone, HasInput, HasNeeded, HasInputs, DoneWith, inputs_in}
+use Rattle.gg_program.specs.inside.Slots.{with_input}
 use Rattle.gg_program.specs.Right.{AreRight, InCycle}
 use Rattle.gg_program.specs.Unset.{unset, IsConeDone}
 

@@ -7,12 +7,6 @@ use Rattle.gg_flat.specs.State.{State}
 use Rattle.gg_flat.specs.Settled.{Settled}
 use Rattle.gg_flat.specs.Reads.{Reaches}
 
--- two lists of inputs, in port order, agree on those that a signal needs
-abbrev pub NeedsAlike : FlatCircuit → ℕ → List ℕ → List ℕ → Type 0
-NeedsAlike circuit out inputs others =
-    (place : ℕ) → place < length circuit.ins → Reaches circuit out (value_at circuit.ins place)
-    → value_at inputs place ≡ value_at others place
-
 -- in a row, the in-signals that a signal reaches have these inputs, in port order
 abbrev pub HasNeeds : FlatCircuit → List ℕ → ℕ → List ℕ → Type 0
 HasNeeds circuit inputs out row =
@@ -31,9 +25,3 @@ pub record MaySettle (circuit : FlatCircuit) (state : State) (inputs : List ℕ)
 pub record IsConeValue (circuit : FlatCircuit) (state : State) (inputs : List ℕ) (out value : ℕ) : Type 0 where
   pub every : (others row : List ℕ) → Settled circuit state others row → HasNeeds circuit inputs out row → value_at row out ≡ value
   pub some : MaySettle circuit state inputs out
-
--- Inputs that agree on those that a signal needs give it the same value in this state.
-abbrev pub IsGivenByNeeds : FlatCircuit → State → ℕ → Type 0
-IsGivenByNeeds circuit state out =
-    (inputs others : List ℕ) (value : ℕ) → NeedsAlike circuit out inputs others
-    → IsConeValue circuit state inputs out value → IsConeValue circuit state others out value

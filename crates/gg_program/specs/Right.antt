@@ -1,7 +1,6 @@
 -- Values that are right for the signals that are done, and a complete cycle.
 -- Source: FIRRTL Specification (the settled cycle of gg_flat's `Settled`), signal by signal.
-use Rattle.std.specs.Prelude.{◌≡◌, ◌≢◌, ℕ, ◌<◌, List, Bool, length}
-use Rattle.gg_flat.specs.declared.piece.Driver.TheVariants.{Input}
+use Rattle.std.specs.Prelude.{◌≡◌, ℕ, ◌<◌, List, Bool, length}
 use Rattle.gg_flat.specs.Line.{shape_at, value_at}
 use Rattle.gg_flat.specs.Circuit.{FlatCircuit, signal_shapes, driver_at}
 use Rattle.gg_flat.specs.Reads.{Reads}
@@ -26,8 +25,3 @@ pub record IsCycle (edges : List Bool) (circuit : FlatCircuit) (before : State) 
   pub signals : List ℕ
   pub settled : Settled circuit before inputs signals
   pub next : after ≡ next_state edges circuit before signals
-
--- a signal of the circuit that isn't an in-signal
-pub record IsInner (circuit : FlatCircuit) (s : ℕ) : Type 0 where
-  pub known : s < length circuit.signals
-  pub inner : (place : ℕ) → driver_at circuit s ≢ Input place

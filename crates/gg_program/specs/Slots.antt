@@ -1,6 +1,6 @@
 -- Slots: the values of the signals in a cycle, and which of them are there already.
 -- Source: MEMOCODE 2009 (a node gets its inputs one by one, and gives each output as soon as it can).
-use Rattle.std.specs.Prelude.{◌≡◌, ◌⊎◌, ℕ, ◌<◌, List, length, map, Bool, true, false, slice_index_or, slice_set}
+use Rattle.std.specs.Prelude.{◌≡◌, ◌⊎◌, ℕ, ◌<◌, List, length, map, Bool, true, false, slice_index_or}
 use Rattle.gg_flat.specs.Line.{value_at, AreTyped}
 use Rattle.gg_flat.specs.Circuit.{FlatCircuit, signal_shapes}
 use Rattle.gg_flat.specs.Reads.{Reaches}
@@ -41,15 +41,6 @@ HasInputs circuit slots = (place : ℕ) → place < length circuit.ins → HasIn
 -- the inputs that a signal needs were put
 abbrev pub HasNeeded : FlatCircuit → Slotted → ℕ → Type 0
 HasNeeded circuit slots out = (place : ℕ) → place < length circuit.ins → Reaches circuit out (value_at circuit.ins place) → HasInput circuit slots place
-
--- the slots with an input put into its place
-abbrev pub with_input : FlatCircuit → Slotted → ℕ → ℕ → Slotted
-with_input circuit slots place input =
-    record {
-      values = slice_set slots.values (value_at circuit.ins place) input;
-      done = slice_set slots.done (value_at circuit.ins place) true;
-      room = slots.room;
-    }
 
 -- What was done before, and what a signal reaches, is done. If not all inputs were put before, nothing else is.
 pub record DoneWith (circuit : FlatCircuit) (out : ℕ) (before after : Slotted) : Type 0 where

@@ -34,7 +34,3 @@ unset circuit slots = unset_among circuit slots.done
 -- all that a signal reaches is done
 abbrev pub IsConeDone : FlatCircuit → ℕ → Slotted → Type 0
 IsConeDone circuit out slots = (s : ℕ) → Reaches circuit out s → IsDone slots s
-
--- the number of signals that aren't in-signals
-abbrev pub assignments : FlatCircuit → ℕ
-assignments circuit = count_below (λ s. is_assignment (driver_at circuit s)) (length circuit.signals)

@@ -5,13 +5,15 @@ ghost use Rattle.gg_flat.specs.Line.{shape_at, value_at, AreTyped};
 ghost use Rattle.gg_flat.specs.Circuit.{signal_shapes, driver_at};
 ghost use Rattle.gg_flat.specs.WellFormed.{IsWellFormed};
 ghost use Rattle.gg_flat.specs.State.{IsState};
-ghost use Rattle.gg_flat.specs.Settled.{HasSource, driver_value};
+ghost use Rattle.gg_flat.specs.inside.Settled.{HasSource};
+ghost use Rattle.gg_flat.specs.Settled.{driver_value};
 ghost use Rattle.gg_order.specs.runs.Room.{HasRoom, line_length};
 ghost use Rattle.gg_flat.specs.InOrder.{IsInOrder};
 ghost use Rattle.gg_order.specs.Marks.{is_marked};
 ghost use Rattle.gg_program.specs.Slots.{inputs_in};
-ghost use Rattle.gg_program.specs.Right.{IsInner, AreRight};
-ghost use Rattle.gg_program.specs.Search.{StandBehind};
+ghost use Rattle.gg_program.specs.inside.Right.{IsInner};
+ghost use Rattle.gg_program.specs.Right.{AreRight};
+ghost use Rattle.gg_program.specs.inside.Search.{StandBehind};
 ghost use Rattle.gg_program.specs.Unset.{unset_among};
 
 use crate::steps::Steps;

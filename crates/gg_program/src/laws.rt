@@ -2,7 +2,8 @@
 ghost use Rattle.std.specs.Prelude.{◌≡◌, ℕ, List};
 ghost use Rattle.gg_flat.specs.Circuit.{FlatCircuit};
 ghost use Rattle.gg_flat.specs.State.{State};
-ghost use Rattle.gg_program.specs.ConeValue.{IsConeValue, IsGivenByNeeds};
+ghost use Rattle.gg_program.specs.ConeValue.{IsConeValue};
+ghost use Rattle.gg_program.specs.inside.ConeValue.{IsGivenByNeeds};
 
 /// A state and inputs give a signal one value. Inputs that agree on those that it needs give it the same value.
 pub fn one_cone_value()

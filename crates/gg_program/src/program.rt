@@ -8,7 +8,8 @@ ghost use Rattle.gg_flat.specs.WellFormed.{IsWellFormed};
 ghost use Rattle.gg_flat.specs.InOrder.{IsInOrder};
 ghost use Rattle.gg_order.specs.needs.Needs.{AreNeeds, AreNeedsOfOuts};
 ghost use Rattle.gg_program.specs.ConeValue.{IsConeValue};
-ghost use Rattle.gg_program.specs.Slots.{NoneDone, HasInput, HasInputs, HasNeeded, AreSlots, inputs_in, with_input, DoneWith};
+ghost use Rattle.gg_program.specs.Slots.{NoneDone, HasInput, HasInputs, HasNeeded, AreSlots, inputs_in, DoneWith};
+ghost use Rattle.gg_program.specs.inside.Slots.{with_input};
 ghost use Rattle.gg_program.specs.Right.{InCycle, IsCycle};
 ghost use Rattle.gg_program.specs.Unset.{unset, IsConeDone};
 
@@ -62,7 +63,8 @@ impl Drop for Program<'_> {
 }
 
 impl<'a> Model for Program<'a> {
-    ghost use Rattle.gg_program.specs.Programmed.{Programmed, IsProgram};
+    ghost use Rattle.gg_program.specs.Programmed.{Programmed};
+    ghost use Rattle.gg_program.specs.inside.Programmed.{IsProgram};
 
     ghost Value = { Programmed };
 

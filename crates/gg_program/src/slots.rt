@@ -50,7 +50,7 @@ impl Drop for Slots {
 impl Model for Slots {
     ghost use Rattle.std.specs.Prelude.{◌≡◌, [], length, true};
     ghost use Rattle.gg_program.specs.Slots.{Slotted};
-    ghost use Rattle.gg_program.specs.Search.{IsFull};
+    ghost use Rattle.gg_program.specs.inside.Search.{IsFull};
 
     ghost Value = { Slotted };
 

@@ -13,9 +13,9 @@ use Rattle.gg_ast.specs.Tree.{CircuitTree}
 use Rattle.gg_read_row.specs.declared.cursor.RowFault.{RowFault}
 use Rattle.gg_read.specs.declared.stage.OpenRegister.{OpenRegister}
 use Rattle.gg_read.specs.declared.stage.Stage.{Stage}
-use Rattle.gg_read_row.specs.LineRows.{statement_row}
+use Rattle.gg_read_row.specs.inside.LineRows.{statement_row}
 use Rattle.gg_read.specs.Text.{is_version, without_version, place_after, after_statement}
-use Rattle.gg_read.specs.Stages.{stage_place, open_row, reset_row, Advances}
+use Rattle.gg_read.specs.inside.Stages.{stage_place, open_row, reset_row, Advances}
 
 -- once there is a row apart from the version's, more rows are added as they are
 without_version-append : (before rows : List Numbered) (x : Numbered) (xs : List Numbered) → without_version before ≡ x ∷ xs → without_version (before ++ rows) ≡ without_version before ++ rows

@@ -10,12 +10,12 @@ use Rattle.gg_lex.specs.Lines.{Lexes}
 use Rattle.gg_lex.proofs.EveryLine.{every_line}
 use Rattle.gg_ast.specs.Row.{Row}
 use Rattle.gg_ast.specs.Tree.{CircuitTree}
-use Rattle.gg_read_row.specs.Reading.{row_at}
+use Rattle.gg_read_row.specs.inside.Reading.{row_at}
 use Rattle.gg_read_row.proofs.RowLaws.{spelt-row_at}
 use Rattle.gg_read_row.proofs.RowsSpelt.{row-spells}
 use Rattle.gg_read.specs.declared.stage.Stage.{Stage}
 use Rattle.gg_read.specs.declared.stage.Stage.TheVariants.{Start, Version, Header, Ports, Statements, Fields, Open}
-use Rattle.gg_read.specs.Stages.{stage_place, HasRead}
+use Rattle.gg_read.specs.inside.Stages.{stage_place, HasRead}
 use Rattle.gg_read.specs.Text.{LinePlace, LineTokens, IsBlank, IsForm, IsAtFault, IsTooDeep, IsFaultLine, HasNoFaultLine, Spells, opened, closed, place_after}
 use Rattle.gg_read.proofs.FaultLines.{same_row}
 use Rattle.gg_read.proofs.LineSteps.{HasRead-row, HasRead-blank, HasRead-fault, HasRead-incomplete, HasRead-whole, HasRead-faultless}

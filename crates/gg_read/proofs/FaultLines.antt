@@ -9,7 +9,7 @@ use Rattle.gg_lex.proofs.Readings.{Lexes-same}
 use Rattle.gg_ast.specs.Row.{Row, Numbered, numbered}
 use Rattle.gg_ast.specs.Tree.{CircuitTree}
 use Rattle.gg_ast.proofs.TreeOf.{one_tree-law}
-use Rattle.gg_read_row.specs.Reading.{row_at}
+use Rattle.gg_read_row.specs.inside.Reading.{row_at}
 use Rattle.gg_read_row.specs.Forms.{SpellsRow}
 use Rattle.gg_read.specs.Text.{LinePlace, AtStart, LineTokens, AreLineTokens, AreRows, IsBlank, IsForm, IsNoForm, IsAtFault, IsTooDeep, AreShallow, IsEndPlace, IsFaultLine, HasNoFaultLine, Spells, place_after, without_version}
 use Rattle.gg_read_row.proofs.RowLaws.{spelt-row_at, row_at-nothing}

@@ -11,7 +11,7 @@ use Rattle.gg_ast.specs.Row.{Row, Numbered, numbered}
 use Rattle.gg_ast.specs.Tree.{CircuitTree}
 use Rattle.gg_read.specs.declared.stage.Stage.{Stage}
 use Rattle.gg_read.specs.Text.{LinePlace, AtStart, LineTokens, AreLineTokens, AreRows, IsBlank, IsForm, IsAtFault, IsTooDeep, AreShallow, IsEndPlace, IsFaultLine, HasNoFaultLine, Spells}
-use Rattle.gg_read.specs.Stages.{stage_place, IsBuilt, Holds, HasRead}
+use Rattle.gg_read.specs.inside.Stages.{stage_place, IsBuilt, Holds, HasRead}
 use Rattle.gg_read.proofs.FaultLines.{no_fault_line}
 
 -- rows, and the row of the next line

@@ -9,7 +9,8 @@ use Rattle.gg_ast.specs.declared.statement.Reset.{Reset}
 use Rattle.gg_ast.specs.declared.statement.Stmt.{Stmt}
 use Rattle.gg_ast.specs.declared.statement.StmtKind.{StmtKind}
 use Rattle.gg_ast.specs.declared.statement.StmtKind.TheVariants.{Wire, Node, Register, Instance, Memory, Connect, Invalid, Skip, Stop, Report}
-use Rattle.gg_ast.specs.Names.{AreNamesOfCircuit, AreNamesOfField, AreNamesOfKind, AreNamesOfMemoryField, AreNamesOfModule, AreNamesOfStatement, AreNamesOfTerm, IsName, IsPortNamed}
+use Rattle.gg_ast.specs.inside.Names.{AreNamesOfCircuit, AreNamesOfField, AreNamesOfKind, AreNamesOfMemoryField, AreNamesOfModule, AreNamesOfStatement, AreNamesOfTerm, IsPortNamed}
+use Rattle.gg_ast.specs.Names.{IsName}
 use Rattle.gg_ast.specs.Row.{Row, Numbered, VersionRow, CircuitRow, ModuleRow, PortRow, WireRow, NodeRow, RegisterRow, RegisterResetRow, RegisterOpenRow, ResetRow, InstanceRow, MemoryRow, FieldRow, ConnectRow, InvalidRow, SkipRow, StopRow, ReportRow}
 use Rattle.gg_ast.specs.Rows.{field_row, kind_rows, module_rows, port_row, register_rows, rows_of_modules, rows_of_statements, statement_rows}
 use Rattle.gg_ast.specs.Term.{Term}

@@ -9,12 +9,13 @@ use Rattle.gg_ast.specs.declared.statement.StmtKind.{StmtKind}
 use Rattle.gg_ast.specs.declared.statement.StmtKind.TheVariants as statement
 use Rattle.gg_ast.specs.Row.{Row, Numbered, numbered, VersionRow, CircuitRow, ModuleRow, PortRow, WireRow, NodeRow, RegisterRow, RegisterResetRow, RegisterOpenRow, ResetRow, InstanceRow, MemoryRow, FieldRow, ConnectRow, InvalidRow, SkipRow, StopRow, ReportRow}
 use Rattle.gg_ast.specs.Rows.{rows_of, kind_rows, statement_rows, port_row, field_row}
-use Rattle.gg_ast.specs.Tree.{CircuitTree, IsOpenToPorts, IsOpenToFields, empty_module, empty_circuit, add_module, add_port, add_statement, add_field, on_last, with_statement, with_port, module_with_field}
+use Rattle.gg_ast.specs.Tree.{CircuitTree, empty_module}
+use Rattle.gg_ast.specs.inside.Tree.{IsOpenToPorts, IsOpenToFields, empty_circuit, add_module, add_port, add_statement, add_field, on_last, with_statement, with_port, module_with_field}
 use Rattle.gg_ast.proofs.LastModule.{length-on_last, rows_of_modules-push, rows_of_modules-with_statement, rows_of_modules-with_port, rows_of_modules-with_field, open-with_port, open-push, fields-if, memory-if}
 use Rattle.gg_read.specs.declared.stage.OpenRegister.{OpenRegister}
 use Rattle.gg_read.specs.declared.stage.Stage.{Stage}
 use Rattle.gg_read.specs.declared.stage.Stage.TheVariants.{Start, Version, Header, Ports, Statements, Fields, Open}
-use Rattle.gg_read.specs.Stages.{stage_place, open_row, IsBuilt, Holds}
+use Rattle.gg_read.specs.inside.Stages.{stage_place, open_row, IsBuilt, Holds}
 use Rattle.gg_read.specs.Text.{LinePlace, AfterVersion, AfterCircuit, InPorts, InStatements, InFields, AwaitsReset, place_after, after_statement, after_open, after_memory, after_module}
 use Rattle.gg_read.proofs.Builds.{rows_more, version_first, header_next, nothing_first, inline_rows, rows_closed}
 

@@ -17,9 +17,9 @@ use Rattle.gg_read.specs.declared.stage.Stage.TheVariants.{Start, Version, Heade
 use Rattle.gg_read.specs.declared.text.ReadFault.{ReadFault}
 use Rattle.gg_read.specs.declared.text.ReadFault.TheVariants as because
 use Rattle.gg_read.specs.Causes.{IsFaultOf}
-use Rattle.gg_read_row.specs.LineRows.{row_of, TellsRow}
+use Rattle.gg_read_row.specs.inside.LineRows.{row_of, TellsRow}
 use Rattle.gg_read_row.specs.Forms.{SpellsRow}
-use Rattle.gg_read.specs.Stages.{stage_place, IsStage, Advances, Ends, HasRead, IsWholeRow, IsRowOf, IsRowStep, IsPlaced, IsMissed, IsFaulty, IsStep}
+use Rattle.gg_read.specs.inside.Stages.{stage_place, IsStage, Advances, Ends, HasRead, IsWholeRow, IsRowOf, IsRowStep, IsPlaced, IsMissed, IsFaulty, IsStep}
 use Rattle.gg_read.specs.Text.{LineTokens, IsTooDeep, IsBlank, IsFaultLine, HasNoFaultLine, Spells, HasReadFault, place_after}
 use Rattle.gg_read.proofs.LineSteps.{HasRead-row, HasRead-blank, HasRead-fault, HasRead-incomplete, HasRead-whole, HasRead-faultless, empty_shallow}
 use Rattle.gg_read.proofs.FaultLines.{same_row, one_circuit-law, one_fault_line-law}

@@ -4,7 +4,7 @@ use Rattle.gg_lex.specs.declared.token.Tok.{Tok}
 use Rattle.gg_lex.specs.declared.token.Tok.TheVariants.{Word, Number, Text, Symbol}
 use Rattle.gg_lex.specs.declared.token.Symbol.TheVariants as mark
 use Rattle.gg_ast.specs.Row.{Row}
-use Rattle.gg_read_row.specs.Reading.{row_at}
+use Rattle.gg_read_row.specs.inside.Reading.{row_at}
 use Rattle.gg_read_row.proofs.RowLaws.{spelt-row_at}
 use Rattle.gg_read_row.proofs.RowsSpelt.{row-spells}
 use Rattle.gg_read.specs.Text.{LineTokens, LinePlace, place_after, opened, IsTooDeep, IsForm, IsNoForm, IsBlank}

@@ -1,4 +1,4 @@
 pub mod Text
 pub mod Causes
-pub mod Stages
 pub mod FaultText
+pub mod inside

@@ -1,7 +1,7 @@
 //! What follows from the definitions alone.
 ghost use Rattle.std.specs.Prelude.{◌≡◌, ◌⊎◌, ℕ, List};
 ghost use Rattle.std.specs.Str.{IsUtf8};
-ghost use Rattle.gg_ast.specs.Names.{AreNamesOfCircuit};
+ghost use Rattle.gg_ast.specs.inside.Names.{AreNamesOfCircuit};
 ghost use Rattle.gg_ast.specs.Tree.{CircuitTree};
 ghost use Rattle.gg_read.specs.Text.{LineTokens, IsFaultLine, HasNoFaultLine, IsTooDeep, Spells};
 

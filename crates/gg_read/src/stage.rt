@@ -1,12 +1,13 @@
 //! The circuit that is built row by row, and the position after these rows.
 ghost use Rattle.std.specs.Prelude.{◌≡◌, ℕ, ◌∷◌, [], ◌<◌, length, IfSome};
-ghost use Rattle.gg_ast.specs.Names.{IsName, IsPortNamed, AreNamesOfTerm, AreNamesOfField, AreNamesOfReset, AreNamesOfStatement};
+ghost use Rattle.gg_ast.specs.Names.{IsName};
+ghost use Rattle.gg_ast.specs.inside.Names.{IsPortNamed, AreNamesOfTerm, AreNamesOfField, AreNamesOfReset, AreNamesOfStatement};
 ghost use Rattle.gg_ast.specs.Row.{numbered, VersionRow, CircuitRow, ModuleRow, MemoryRow, RegisterResetRow};
 ghost use Rattle.gg_ast.specs.Rows.{port_row, field_row, statement_rows};
-ghost use Rattle.gg_ast.specs.Tree.{IsMemory, IsOpenToPorts, IsOpenToFields};
-ghost use Rattle.gg_read_row.specs.LineRows.{row_of, AreNamesOfLine};
+ghost use Rattle.gg_ast.specs.inside.Tree.{IsMemory, IsOpenToPorts, IsOpenToFields};
+ghost use Rattle.gg_read_row.specs.inside.LineRows.{row_of, AreNamesOfLine};
 ghost use Rattle.gg_read.specs.Text.{InPorts, InStatements, InFields, place_after, after_version, after_circuit, after_module, after_port, after_statement, after_open, after_memory, after_field, after_reset};
-ghost use Rattle.gg_read.specs.Stages.{stage_place, AreNamesOfRegister, IsStage, Advances, TellsStart, TellsBare, IsWhole, IsBody, IsPortsOf, IsMemoryOf, IsOpened, open_row, reset_row, Ends};
+ghost use Rattle.gg_read.specs.inside.Stages.{stage_place, AreNamesOfRegister, IsStage, Advances, TellsStart, TellsBare, IsWhole, IsBody, IsPortsOf, IsMemoryOf, IsOpened, open_row, reset_row, Ends};
 
 use crate::text::ReadFault;
 use gg_ast::{Circuit, Expr, Field, Fields, GroundType, Port, Reset, Stmt, StmtKind};

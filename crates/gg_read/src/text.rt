@@ -3,8 +3,8 @@ ghost use Rattle.std.specs.Prelude.{◌≡◌, ℕ, ◌+◌, ◌<◌, ◌≤◌,
 ghost use Rattle.std.specs.Str.{IsUtf8};
 ghost use Rattle.gg_ast.specs.Tree.{CircuitTree};
 ghost use Rattle.gg_read.specs.Causes.{IsFaultOf};
-ghost use Rattle.gg_read_row.specs.LineRows.{AreNamesOfLine};
-ghost use Rattle.gg_read.specs.Stages.{line_of, IsStage, IsRowOf, IsPlaced, IsStep, IsMissed, TellsBlank};
+ghost use Rattle.gg_read_row.specs.inside.LineRows.{AreNamesOfLine};
+ghost use Rattle.gg_read.specs.inside.Stages.{line_of, IsStage, IsRowOf, IsPlaced, IsStep, IsMissed, TellsBlank};
 ghost use Rattle.gg_read.specs.Text.{LineTokens, IsFaultLine, HasNoFaultLine, Spells, HasReadFault};
 
 use crate::fault::{is_too_deep, line_fault};

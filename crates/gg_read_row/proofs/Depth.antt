@@ -2,7 +2,7 @@
 use Rattle.std.proofs.Common.{◌≡◌, ◌<◌, ℕ, zero, suc, ◌-◌, List, refl, arith, ap}
 use Rattle.gg_lex.specs.declared.token.Tok.{Tok}
 use Rattle.gg_ast.specs.declared.statement.Argument.{Argument}
-use Rattle.gg_read_row.specs.Reading.{expr_at, form_at, arguments_at}
+use Rattle.gg_read_row.specs.inside.Reading.{expr_at, form_at, arguments_at}
 
 pub expr_at-level : (depth : ℕ) (ts : List Tok) → (depth ≡ 0 → ⊥) → expr_at depth ts ≡ form_at (expr_at (depth - 1)) ts
 expr_at-level zero ts some = absurd (some refl)

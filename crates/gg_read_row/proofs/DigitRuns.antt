@@ -9,7 +9,7 @@ use Rattle.std.specs.Str.Parse.{ParsesUnsigned, digits_value}
 use Rattle.std.proofs.lemmas.Str.Parse.{parse_digits, numerals_by_value, tells_all_ascii_digits}
 use Rattle.gg_ast.specs.declared.expression.Radix.TheVariants.{Decimal}
 use Rattle.gg_read_row.specs.Forms.{are_digits}
-use Rattle.gg_read_row.specs.Reading.{natural_of}
+use Rattle.gg_read_row.specs.inside.Reading.{natural_of}
 
 -- std's test for decimal digits tests each byte
 decimal_digits : (bs : List ℕ) → all_ascii_digits bs ≡ list_all is_ascii_digit bs

@@ -24,10 +24,11 @@ use Rattle.gg_ast.specs.declared.words.Operation.{Operation}
 use Rattle.gg_ast.specs.declared.words.Operation.TheVariants.{Unary, Binary as Binary2, Fixed, Mux}
 use Rattle.gg_read_row.specs.declared.digits.Digits.{Digits}
 use Rattle.gg_bits.specs.Spelling.{text1, text2, text_const}
-use Rattle.gg_ast.specs.Words.{kind_text, operation_of}
+use Rattle.gg_ast.specs.Words.{kind_text}
+use Rattle.gg_ast.specs.inside.Words.{operation_of}
 use Rattle.gg_ast.specs.Names.{IsName}
 use Rattle.gg_read_row.specs.Forms.{IsNatural, SpellsReference, SpellsType, SpellsLiteral, SpellsNumber, SpellsWithRadix, SpellsParameters, SpellsExpr, are_digits, signed, number_token, letter_of}
-use Rattle.gg_read_row.specs.Reading.{◌>>=◌, symbol_at, word_at, name_at, natural_at, third_at, second_at, reference_at, width_at, kind_at, ground_type, type_at, checked_digits, signed_digits, radix_of, text_digits, zero_radix, radix_or_decimal, split_radix, number_digits, digits_at, literal_of, literal_at, operation_at, one_parameter_at, two_parameters_at, parameters_at, is_second, unary_at, binary_at, fixed_at, mux_at, operands_at, call_at, expr_at}
+use Rattle.gg_read_row.specs.inside.Reading.{◌>>=◌, symbol_at, word_at, name_at, natural_at, third_at, second_at, reference_at, width_at, kind_at, ground_type, type_at, checked_digits, signed_digits, radix_of, text_digits, zero_radix, radix_or_decimal, split_radix, number_digits, digits_at, literal_of, literal_at, operation_at, one_parameter_at, two_parameters_at, parameters_at, is_second, unary_at, binary_at, fixed_at, mux_at, operands_at, call_at, expr_at}
 use Rattle.gg_read_row.proofs.Leaves.{bound, chosen, not_chosen, symbol_at-spells, word_at-spells, name_at-spells, natural_at-spells}
 use Rattle.gg_read_row.proofs.WordLaws.{operation_text, operation_of-spells}
 

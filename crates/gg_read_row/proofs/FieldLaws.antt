@@ -14,9 +14,10 @@ use Rattle.gg_ast.specs.declared.statement.ReadUnderWrite.TheVariants as under_w
 use Rattle.gg_ast.specs.Names.{is_name}
 use Rattle.gg_ast.specs.declared.words.FieldWord.{FieldWord}
 use Rattle.gg_ast.specs.declared.words.FieldWord.TheVariants as field_word
-use Rattle.gg_ast.specs.Words.{read_under_write_text, field_text}
+use Rattle.gg_ast.specs.Words.{read_under_write_text}
+use Rattle.gg_ast.specs.inside.Words.{field_text}
 use Rattle.gg_read_row.specs.Forms.{IsNatural, SpellsType, SpellsMoreNames, SpellsNames, SpellsField}
-use Rattle.gg_read_row.specs.Reading.{◌>>=◌, choose, word_at, natural_at, end_at, type_at, more_names_at, names_at, last_type_at, last_natural_at, read_under_write_at, last_read_under_write_at, field_at}
+use Rattle.gg_read_row.specs.inside.Reading.{◌>>=◌, choose, word_at, natural_at, end_at, type_at, more_names_at, names_at, last_type_at, last_natural_at, read_under_write_at, last_read_under_write_at, field_at}
 use Rattle.gg_read_row.proofs.Leaves.{bound, ended, goes_on, chosen, not_chosen, word_at-spells, natural_at-spells, natural_at-here, true_is, is_true}
 use Rattle.gg_read_row.proofs.ExpressionsSpelt.{type-spells}
 use Rattle.gg_read_row.proofs.Expressions.{type-read}

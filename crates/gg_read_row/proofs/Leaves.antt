@@ -12,7 +12,7 @@ use Rattle.gg_lex.specs.declared.token.Symbol.TheVariants.{Connect, Arrow, Parti
 use Rattle.gg_lex.specs.Tokens.{spelling}
 use Rattle.gg_ast.specs.Names.{IsName, is_name}
 use Rattle.gg_read_row.specs.Forms.{IsNatural, is_natural}
-use Rattle.gg_read_row.specs.Reading.{◌>>=◌, choose, symbol_at, word_at, name_at, natural_of, natural_at, end_at, text_at}
+use Rattle.gg_read_row.specs.inside.Reading.{◌>>=◌, choose, symbol_at, word_at, name_at, natural_of, natural_at, end_at, text_at}
 
 -- if a chain found something, its first part did, and the next part found that from there
 pub bound : {A B : Type 0} (o : Option A) (f : A → Option B) (y : B) → (o >>= f) ≡ Some y → (x : A) × (o ≡ Some x) × (f x ≡ Some y)

@@ -15,13 +15,14 @@ use Rattle.gg_ast.specs.declared.statement.MemoryField.{MemoryField}
 use Rattle.gg_ast.specs.declared.statement.MemoryField.TheVariants as field
 use Rattle.gg_ast.specs.declared.statement.StmtKind.{StmtKind}
 use Rattle.gg_ast.specs.declared.statement.StmtKind.TheVariants as statement
-use Rattle.gg_ast.specs.Names.{IsName, AreNamesOfReference, AreNamesOfTerm, AreNamesOfArgument, AreNamesOfMemoryField, AreNamesOfKind}
+use Rattle.gg_ast.specs.Names.{IsName}
+use Rattle.gg_ast.specs.inside.Names.{AreNamesOfReference, AreNamesOfTerm, AreNamesOfArgument, AreNamesOfMemoryField, AreNamesOfKind}
 use Rattle.gg_ast.specs.Row.{RegisterResetRow, ConnectRow, InvalidRow}
 use Rattle.gg_ast.specs.Term.{Term, NamedTerm, ConstantTerm, UnaryTerm, BinaryTerm, FixedTerm, MuxTerm}
 use Rattle.gg_read_row.specs.declared.row.LineRow.{LineRow}
 use Rattle.gg_read_row.specs.declared.row.LineRow.TheVariants as line
 use Rattle.gg_read_row.specs.Forms.{SpellsReference, SpellsExpr, SpellsReset, SpellsLabel, SpellsArgument, SpellsArguments, SpellsRegister, SpellsMoreNames, SpellsNames, SpellsField, SpellsRow}
-use Rattle.gg_read_row.specs.LineRows.{statement_row, row_of, AreNamesOfLine}
+use Rattle.gg_read_row.specs.inside.LineRows.{statement_row, row_of, AreNamesOfLine}
 
 reference-named : (r : Reference) (ts rest : List Tok) → SpellsReference r ts rest → AreNamesOfReference r
 reference-named (reference.Local a) ts rest h = h.0

@@ -7,9 +7,9 @@ use Rattle.gg_read_row.specs.declared.cursor.RowFault.{RowFault}
 use Rattle.gg_read_row.specs.declared.cursor.RowFault.TheVariants.{NoForm, NoMemory}
 use Rattle.gg_read_row.specs.declared.row.LineRow.{LineRow}
 use Rattle.gg_read_row.specs.Forms.{SpellsRow}
-use Rattle.gg_read_row.specs.LineRows.{row_of, AreNamesOfLine, FindsRow, TellsRow}
+use Rattle.gg_read_row.specs.inside.LineRows.{row_of, AreNamesOfLine, FindsRow, TellsRow}
 use Rattle.gg_read_row.proofs.NamesSpelt.{line-named}
-use Rattle.gg_read_row.specs.Reading.{row_at}
+use Rattle.gg_read_row.specs.inside.Reading.{row_at}
 use Rattle.gg_read_row.proofs.RowsRead.{row-read}
 use Rattle.gg_read_row.proofs.RowsSpelt.{row-spells}
 

@@ -18,7 +18,7 @@ use Rattle.gg_ast.specs.declared.words.Keyword.TheVariants as keyword
 use Rattle.gg_ast.specs.Words.{direction_text}
 use Rattle.gg_ast.specs.Names.{IsName}
 use Rattle.gg_read_row.specs.Forms.{IsNatural, SpellsReference, SpellsType, SpellsExpr, SpellsReset, SpellsLabel, SpellsArgument, SpellsArguments, SpellsRegister, SpellsRegreset, SpellsConnect, SpellsInvalidate, SpellsRow}
-use Rattle.gg_read_row.specs.Reading.{◌>>=◌, choose, symbol_at, word_at, name_at, natural_at, end_at, type_at, reference_at, one_parameter_at, text_at, expression_at, last_expression_at, version_at, header_at, declared_at, last_declared_at, node_at, reset_at, clocked_at, public_at, last_pair_at, instance_at, label_at, stop_at, argument_at, arguments_at, report_at, field_at, body_at, keyword_at, driven_at, connection_at, is_invalid, is_connection, row_at}
+use Rattle.gg_read_row.specs.inside.Reading.{◌>>=◌, choose, symbol_at, word_at, name_at, natural_at, end_at, type_at, reference_at, one_parameter_at, text_at, expression_at, last_expression_at, version_at, header_at, declared_at, last_declared_at, node_at, reset_at, clocked_at, public_at, last_pair_at, instance_at, label_at, stop_at, argument_at, arguments_at, report_at, field_at, body_at, keyword_at, driven_at, connection_at, is_invalid, is_connection, row_at}
 use Rattle.gg_read_row.proofs.FieldLaws.{word_of, field-read}
 use Rattle.gg_read_row.proofs.Leaves.{goes_on, not_chosen, name_at-here, natural_at-here}
 use Rattle.gg_read_row.proofs.WordLaws.{keyword_text, keyword_of-here}

@@ -15,10 +15,11 @@ use Rattle.gg_ast.specs.declared.statement.Argument.TheVariants as given
 use Rattle.gg_ast.specs.declared.words.FieldWord.{FieldWord}
 use Rattle.gg_ast.specs.declared.words.Keyword.{Keyword}
 use Rattle.gg_ast.specs.declared.words.Keyword.TheVariants as keyword
-use Rattle.gg_ast.specs.Words.{direction_text, report_text, field_text, keyword_of}
+use Rattle.gg_ast.specs.Words.{direction_text, report_text}
+use Rattle.gg_ast.specs.inside.Words.{field_text, keyword_of}
 use Rattle.gg_ast.specs.Names.{IsName}
 use Rattle.gg_read_row.specs.Forms.{SpellsReference, SpellsType, SpellsExpr, SpellsReset, SpellsLabel, SpellsArgument, SpellsArguments, SpellsRegister, SpellsRow}
-use Rattle.gg_read_row.specs.Reading.{◌>>=◌, choose, symbol_at, word_at, name_at, natural_at, end_at, type_at, reference_at, one_parameter_at, text_at, expression_at, last_expression_at, version_at, header_at, declared_at, last_declared_at, node_at, reset_at, reset_row_at, inline_reset_at, with_at, clocked_at, register_at, instance_at, public_at, connect_at, invalidate_at, last_pair_at, regreset_at, label_at, stop_at, argument_at, arguments_at, report_at, field_at, field_row_at, body_at, keyword_at, invalid_at, driven_at, connection_at, is_connection, row_at}
+use Rattle.gg_read_row.specs.inside.Reading.{◌>>=◌, choose, symbol_at, word_at, name_at, natural_at, end_at, type_at, reference_at, one_parameter_at, text_at, expression_at, last_expression_at, version_at, header_at, declared_at, last_declared_at, node_at, reset_at, reset_row_at, inline_reset_at, with_at, clocked_at, register_at, instance_at, public_at, connect_at, invalidate_at, last_pair_at, regreset_at, label_at, stop_at, argument_at, arguments_at, report_at, field_at, field_row_at, body_at, keyword_at, invalid_at, driven_at, connection_at, is_connection, row_at}
 use Rattle.gg_read_row.proofs.Leaves.{bound, ended, chosen, not_chosen, symbol_at-spells, word_at-spells, name_at-spells, natural_at-spells, end_at-spells, text_at-spells}
 use Rattle.gg_read_row.proofs.FieldLaws.{field-spells}
 use Rattle.gg_read_row.proofs.WordLaws.{keyword_text, keyword_of-spells}

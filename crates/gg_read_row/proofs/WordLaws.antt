@@ -14,8 +14,10 @@ use Rattle.gg_ast.specs.declared.words.Operation.{Operation}
 use Rattle.gg_ast.specs.declared.words.Operation.TheVariants.{Unary, Binary, Fixed, Mux}
 use Rattle.gg_ast.specs.declared.words.Keyword.{Keyword}
 use Rattle.gg_ast.specs.declared.words.Keyword.TheVariants as keyword
-use Rattle.gg_bits.specs.Spelling.{text1, text2, text_const, written_as, all1, all2, all_const, named1, named2, named_const}
-use Rattle.gg_ast.specs.Words.{direction_text, report_text, field_text, operation_of, head_words, tail_words, field_words, second_words, keyword_of}
+use Rattle.gg_bits.specs.Spelling.{text1, text2, text_const}
+use Rattle.gg_bits.specs.inside.Spelling.{written_as, all1, all2, all_const, named1, named2, named_const}
+use Rattle.gg_ast.specs.Words.{direction_text, report_text}
+use Rattle.gg_ast.specs.inside.Words.{field_text, operation_of, head_words, tail_words, field_words, second_words, keyword_of}
 use Rattle.gg_bits.specs.Lists.{find_word}
 use Rattle.gg_read_row.proofs.Leaves.{equal_bytes}
 

@@ -23,7 +23,7 @@ use Rattle.gg_ast.specs.Term.{Term, NamedTerm, ConstantTerm, UnaryTerm, BinaryTe
 use Rattle.gg_ast.specs.declared.statement.Argument.{Argument}
 use Rattle.gg_ast.specs.declared.statement.Argument.TheVariants as given
 use Rattle.gg_read_row.specs.Forms.{SpellsRow}
-use Rattle.gg_read_row.specs.Reading.{row_at}
+use Rattle.gg_read_row.specs.inside.Reading.{row_at}
 use Rattle.gg_read_row.proofs.RowLaws.{spelt-row_at}
 use Rattle.gg_read_row.proofs.RowsSpelt.{row-spells}
 

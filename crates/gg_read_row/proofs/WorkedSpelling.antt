@@ -13,7 +13,7 @@ use Rattle.gg_ast.specs.declared.expression.Reference.TheVariants as reference
 use Rattle.gg_ast.specs.declared.module.GroundType.TheVariants as plain_type
 use Rattle.gg_ast.specs.Row.{Row, ModuleRow, NodeRow, RegisterResetRow, ConnectRow, InvalidRow}
 use Rattle.gg_ast.specs.Term.{Term, NamedTerm, ConstantTerm, BinaryTerm}
-use Rattle.gg_read_row.specs.Reading.{row_at}
+use Rattle.gg_read_row.specs.inside.Reading.{row_at}
 use Rattle.gg_read_row.proofs.WorkedRows.{IsRow, read, sole, none, named, a, b, c, k, literal}
 
 -- Connections, and sinks that are invalid.

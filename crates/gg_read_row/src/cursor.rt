@@ -1,6 +1,6 @@
 //! A cursor over the tokens of a line.
 ghost use Rattle.std.specs.Prelude.{◌≡◌, [], ◌∷◌, ◌++◌, MatchBool, MatchResult, is_some, length};
-ghost use Rattle.gg_read_row.specs.Reading.{Reads, Passes, Finds, TakesName, more_names_at, names_at, symbol_at, word_at, name_at, natural_at, digits_at, operation_at, is_second, end_at, text_at, keyword_at, is_invalid, is_connection};
+ghost use Rattle.gg_read_row.specs.inside.Reading.{Reads, Passes, Finds, TakesName, more_names_at, names_at, symbol_at, word_at, name_at, natural_at, digits_at, operation_at, is_second, end_at, text_at, keyword_at, is_invalid, is_connection};
 
 use crate::digits::{Digits, natural_value, number_digits, text_digits};
 use gg_ast::{Keyword, Operation, find_keyword, find_operation, is_name};

@@ -2,7 +2,7 @@
 ghost use Rattle.std.specs.Prelude.{◌≡◌, IsTrue, OnOk};
 ghost use Rattle.std.specs.List.{list_all};
 ghost use Rattle.gg_read_row.specs.Forms.{is_digit_of, are_digits};
-ghost use Rattle.gg_read_row.specs.Reading.{Finds, natural_of, checked_digits, signed_digits, radix_of, text_digits, zero_radix, split_radix, number_digits};
+ghost use Rattle.gg_read_row.specs.inside.Reading.{Finds, natural_of, checked_digits, signed_digits, radix_of, text_digits, zero_radix, split_radix, number_digits};
 
 use crate::cursor::RowFault;
 use gg_ast::Radix;

@@ -1,6 +1,6 @@
 //! References, types, literals and expressions.
 ghost use Rattle.std.specs.Prelude.{◌≡◌, MatchResult};
-ghost use Rattle.gg_read_row.specs.Reading.{Reads, reference_at, second_at, third_at, width_at, kind_at, type_at, literal_at, parameters_at, one_parameter_at, two_parameters_at, expr_at, form_at, call_at, operands_at, unary_at, binary_at, fixed_at, mux_at};
+ghost use Rattle.gg_read_row.specs.inside.Reading.{Reads, reference_at, second_at, third_at, width_at, kind_at, type_at, literal_at, parameters_at, one_parameter_at, two_parameters_at, expr_at, form_at, call_at, operands_at, unary_at, binary_at, fixed_at, mux_at};
 
 use crate::cursor::{Cursor, RowFault};
 use gg_ast::{Expr, ExprKind, GroundType, Literal, Operation, Reference};

@@ -1,5 +1,5 @@
 //! The fields of a memory.
-ghost use Rattle.gg_read_row.specs.Reading.{Reads, Finds, last_type_at, last_natural_at, read_under_write_at, last_read_under_write_at, field_at};
+ghost use Rattle.gg_read_row.specs.inside.Reading.{Reads, Finds, last_type_at, last_natural_at, read_under_write_at, last_read_under_write_at, field_at};
 
 use crate::cursor::{Cursor, RowFault};
 use crate::expression::ground_type;

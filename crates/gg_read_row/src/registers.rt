@@ -3,8 +3,8 @@ ghost use Rattle.std.specs.Prelude.{ℕ, List};
 ghost use Rattle.gg_ast.specs.Row.{RegisterResetRow};
 ghost use Rattle.gg_ast.specs.Term.{Term};
 ghost use Rattle.gg_lex.specs.declared.token.Symbol.TheVariants.{Comma, CloseParen};
-ghost use Rattle.gg_read_row.specs.Reading.{◌>>=◌ as ◌and_then◌, Reads, Finds, symbol_at, expression_at, reset_at, reset_row_at, inline_reset_at, with_at, clocked_at, register_at, last_pair_at, regreset_at};
-ghost use Rattle.gg_read_row.specs.LineRows.{FindsRow};
+ghost use Rattle.gg_read_row.specs.inside.Reading.{◌>>=◌ as ◌and_then◌, Reads, Finds, symbol_at, expression_at, reset_at, reset_row_at, inline_reset_at, with_at, clocked_at, register_at, last_pair_at, regreset_at};
+ghost use Rattle.gg_read_row.specs.inside.LineRows.{FindsRow};
 
 use crate::cursor::{Cursor, RowFault};
 use crate::row::{LineRow, declared, expression, last_expression};

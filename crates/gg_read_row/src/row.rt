@@ -1,7 +1,7 @@
 //! The row of a line: one function for each form.
 ghost use Rattle.std.specs.Prelude.{IfOk};
-ghost use Rattle.gg_read_row.specs.Reading.{Reads, Finds, expression_at, last_expression_at, version_at, header_at, declared_at, last_declared_at, node_at, instance_at, field_row_at, body_at, invalid_at, driven_at, connection_at, public_at, connect_at, invalidate_at, row_at};
-ghost use Rattle.gg_read_row.specs.LineRows.{AreNamesOfLine, FindsRow, TellsRow};
+ghost use Rattle.gg_read_row.specs.inside.Reading.{Reads, Finds, expression_at, last_expression_at, version_at, header_at, declared_at, last_declared_at, node_at, instance_at, field_row_at, body_at, invalid_at, driven_at, connection_at, public_at, connect_at, invalidate_at, row_at};
+ghost use Rattle.gg_read_row.specs.inside.LineRows.{AreNamesOfLine, FindsRow, TellsRow};
 
 use crate::cursor::{Cursor, RowFault};
 use crate::expression::{expr, ground_type, reference};

@@ -2,8 +2,8 @@
 ghost use Rattle.std.specs.Prelude.{◌≡◌, [], ◌∷◌, ◌++◌, length, MatchResult};
 ghost use Rattle.gg_ast.specs.Row.{StopRow};
 ghost use Rattle.gg_ast.specs.Term.{Term};
-ghost use Rattle.gg_read_row.specs.Reading.{◌>>=◌ as ◌and_then◌, Reads, Finds, one_parameter_at, label_at, stop_at, argument_at, arguments_at, TakesArgument, report_at};
-ghost use Rattle.gg_read_row.specs.LineRows.{FindsRow};
+ghost use Rattle.gg_read_row.specs.inside.Reading.{◌>>=◌ as ◌and_then◌, Reads, Finds, one_parameter_at, label_at, stop_at, argument_at, arguments_at, TakesArgument, report_at};
+ghost use Rattle.gg_read_row.specs.inside.LineRows.{FindsRow};
 
 use crate::cursor::{Cursor, RowFault};
 use crate::expression::one_parameter;

@@ -1,3 +1,2 @@
 pub mod Cycle
-pub mod Kept
-pub mod RunByCycles
+pub mod inside

@@ -1,6 +1,7 @@
 //! Whether a piece is well formed.
 ghost use Rattle.std.specs.Prelude.{◌≡◌, ℕ, ◌<◌, ◌↔◌, Ok, length, map, slice_index_or, All, IsTrue};
-ghost use Rattle.gg_bits.specs.Shape.{shape, shape_of, Fits};
+ghost use Rattle.gg_bits.specs.Shape.{shape, Fits};
+ghost use Rattle.gg_bits.specs.inside.Shape.{shape_of};
 ghost use Rattle.gg_flat.specs.Line.{shape_at, value_at, shapes_of, op_at, line_shape, HasShape, HasType, IsLine, IsSource, IsCondition};
 ghost use Rattle.gg_flat.specs.Circuit.{signal_shapes, driver_at};
 ghost use Rattle.gg_flat.specs.WellFormed.{MayDrive, IsReset, IsRegister, IsWellFormed};

@@ -2,7 +2,7 @@
 ghost use Rattle.std.specs.Prelude.{◌≡◌, ℕ, List, []};
 ghost use Rattle.gg_flat.specs.Circuit.{FlatCircuit};
 ghost use Rattle.gg_flat.specs.Run.{Start, IsRunFrom, state_at};
-ghost use Rattle.gg_refsim.specs.RunByCycles.{RunContinues, StateContinues};
+ghost use Rattle.gg_refsim.specs.inside.RunByCycles.{RunContinues, StateContinues};
 
 /// The empty list of rows is the run of 0 cycles from a start. The state after it is that of the start.
 pub fn run_begins()

@@ -7,7 +7,8 @@ ghost use Rattle.gg_flat.specs.State.{State as StateValue, IsState};
 ghost use Rattle.gg_flat.specs.Settled.{IsInputs};
 ghost use Rattle.gg_flat.specs.Order.{IsOrder};
 ghost use Rattle.gg_flat.specs.WellFormed.{IsWellFormed};
-ghost use Rattle.gg_refsim.specs.Cycle.{Cycle, begun};
+ghost use Rattle.gg_refsim.specs.Cycle.{Cycle};
+ghost use Rattle.gg_refsim.specs.inside.Cycle.{begun};
 
 use gg_clocks::{Ratio, Timing};
 use gg_flat::Piece;
@@ -70,8 +71,8 @@ impl Drop for Mono<'_> {
 
 impl<'a> Model for Mono<'a> {
     ghost use Rattle.std.specs.Prelude.{length};
-    ghost use Rattle.gg_refsim.specs.Cycle.{Simulation};
-    ghost use Rattle.gg_refsim.specs.Kept.{IsKept};
+    ghost use Rattle.gg_refsim.specs.inside.Cycle.{Simulation};
+    ghost use Rattle.gg_refsim.specs.inside.Kept.{IsKept};
 
     ghost Value = { Simulation };
 

@@ -15,7 +15,7 @@ use Rattle.gg_net.specs.markings.Steps.{IsStep, Steps}
 use Rattle.gg_net.proofs.MarkingsLemmas.GoesLemmas.{step-frame}
 use Rattle.gg_net.proofs.MarkingsLemmas.PutsLemmas.{front-grows, step-others}
 use Rattle.gg_net.proofs.MarkingsLemmas.StepsLemmas.{steps-more}
-use Rattle.gg_replay.specs.Log.{tokens_at, AreFronts, IsBehind}
+use Rattle.gg_replay.specs.inside.Log.{tokens_at, AreFronts, IsBehind}
 
 -- equal `Fire` events give the token of the same channel
 fired-same : (c d : ℕ) → Fire c ≡ Fire d → c ≡ d

@@ -9,9 +9,10 @@ use Rattle.gg_node.specs.Machine.{Machine, no_machine, machine_at, flag_at}
 use Rattle.gg_net.specs.declared.shape.Wire.{Wire}
 use Rattle.gg_net.specs.Network.{Network, wire_at, and_one, puts, entered_by, opening_queue}
 use Rattle.gg_net.specs.Kept.{Kept, list_at}
-use Rattle.gg_net.specs.Net.{IsOpening, opening_net}
+use Rattle.gg_net.specs.inside.Net.{IsOpening}
+use Rattle.gg_net.specs.Net.{opening_net}
 use Rattle.gg_net.proofs.MarkingsLemmas.OpeningLemmas.{none-put}
-use Rattle.gg_replay.specs.Log.{AreFronts, opening_log}
+use Rattle.gg_replay.specs.inside.Log.{AreFronts, opening_log}
 
 -- the first value of a list
 front-one : (list : List ℕ) → 0 < length list → value_at list 0 ∷ [] ≡ take 1 list

@@ -8,8 +8,8 @@ use Rattle.gg_flat.specs.Line.{value_at}
 use Rattle.gg_flat.specs.Streams.{Flow}
 use Rattle.gg_net.specs.declared.event.StepRefusal.TheVariants.{Stranger}
 use Rattle.gg_net.specs.Network.{Network, entered}
-use Rattle.gg_replay.specs.Log.{AreFronts, opening_log}
-use Rattle.gg_replay.specs.Stopping.{IsStop}
+use Rattle.gg_replay.specs.inside.Log.{AreFronts, opening_log}
+use Rattle.gg_replay.specs.inside.Stopping.{IsStop}
 use Rattle.gg_replay.specs.declared.fault.ReplayFault.TheVariants.{Refused}
 use Rattle.gg_replay.specs.ReplayText.{channel_line}
 use Rattle.std.specs.Fmt.{digits}

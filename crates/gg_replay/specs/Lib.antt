@@ -1,4 +1,3 @@
-pub mod Log
-pub mod Stopping
 pub mod ReplayText
 pub mod steps_file
+pub mod inside

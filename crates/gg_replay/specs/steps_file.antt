@@ -1,5 +1,4 @@
 pub mod Naming
-pub mod Table
 pub mod Words
 pub mod Steps
 pub mod Cause

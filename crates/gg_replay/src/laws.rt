@@ -3,7 +3,7 @@ ghost use Rattle.std.specs.Prelude.{◌≡◌, ℕ, List};
 ghost use Rattle.gg_flat.specs.Streams.{Flow};
 ghost use Rattle.gg_node.specs.Machine.{Machine};
 ghost use Rattle.gg_net.specs.declared.shape.Wire.{Wire};
-ghost use Rattle.gg_replay.specs.Log.{OpensWithFronts};
+ghost use Rattle.gg_replay.specs.inside.Log.{OpensWithFronts};
 
 /// Before the first cycle a log of the tokens with which the channels open is right, if all begins with cycle 0.
 pub fn opens_with_first_tokens()

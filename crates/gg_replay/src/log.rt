@@ -1,7 +1,7 @@
 //! `Log`: the tokens that have entered the channels of a network.
 ghost use Rattle.std.specs.Prelude.{◌≡◌, ◌<◌, ◌++◌, ◌∷◌, [], length, slice_set, IfOk, OnOk};
 ghost use Rattle.gg_net.specs.Network.{opening_queue};
-ghost use Rattle.gg_replay.specs.Log.{opening_log, tokens_at};
+ghost use Rattle.gg_replay.specs.inside.Log.{opening_log, tokens_at};
 
 use gg_net::Wire;
 use std::alloc::{AllocError, Global};

@@ -2,8 +2,8 @@
 ghost use Rattle.std.specs.Prelude.{◌≡◌, Some, IfErr, OnOk, MatchResult};
 ghost use Rattle.gg_net.specs.declared.event.Event.TheVariants.{Fire};
 ghost use Rattle.gg_net.specs.markings.Steps.{IsStep, StepRefused, Steps};
-ghost use Rattle.gg_replay.specs.Log.{AreFronts, IsBehind};
-ghost use Rattle.gg_replay.specs.Stopping.{IsStop, KeepsLog};
+ghost use Rattle.gg_replay.specs.inside.Log.{AreFronts, IsBehind};
+ghost use Rattle.gg_replay.specs.inside.Stopping.{IsStop, KeepsLog};
 
 use crate::fault::ReplayFault;
 use crate::log::Log;

@@ -3,7 +3,7 @@ use Rattle.std.proofs.Common.{◌≡◌, ℕ, zero, suc, ◌+◌, ◌*◌, ◌<�
 use Rattle.std.proofs.lemmas.Nat.{div-add-mod'}
 use mathlib.Core.Option.{some, some-injective, some-ne-none}
 use lib.ListN.{get_elem?}
-use Rattle.gg_ring.specs.Rule.{low, high, low_word, high_word, Laid}
+use Rattle.gg_ring.specs.inside.Rule.{low, high, low_word, high_word, Laid}
 
 pub joined-value : (x l h value : ℕ) → x ≡ h * 18446744073709551616 + l → l ≡ low value → h ≡ high value → x ≡ value
 joined-value x l h value is lows highs = is ∙ rw (lows, highs) (div-add-mod' value 18446744073709551616)

@@ -10,8 +10,8 @@ use Rattle.atomic_table.specs.Table.{State, Me, Allows, Splits, Joins, Final, Se
 use Rattle.atomic_table.proofs.Lists.{at_set, at_snoc, one_turn}
 use Rattle.gg_link.proofs.ViewLemmas.{OfEach, of_each-set, at_end, only_first}
 use Rattle.gg_ring.specs.declared.rule.View.{View}
-use Rattle.gg_ring.specs.Rule.{low_word, high_word, low, high, Laid, FitsPut, FitsTake, Fits, Holds, StandsLow, StandsHigh}
-use Rattle.gg_ring.specs.Views.{putter, taker, whole, spent, saw_head, stored_to, has_put, saw_tail, loaded_low, loaded_high, has_taken}
+use Rattle.gg_ring.specs.inside.Rule.{low_word, high_word, low, high, Laid, FitsPut, FitsTake, Fits, Holds, StandsLow, StandsHigh}
+use Rattle.gg_ring.specs.inside.Views.{putter, taker, whole, spent, saw_head, stored_to, has_put, saw_tail, loaded_low, loaded_high, has_taken}
 use Rattle.gg_ring.proofs.ThereLemmas.{there-set, there-here, there-else, there-longer, there-last}
 
 -- the seat that puts looks at the head

@@ -4,7 +4,7 @@ use mathlib.Core.Option.{some, some-injective, some-ne-none}
 use lib.ListN.{get_elem?}
 use Rattle.atomic_table.proofs.Lists.{set_else, at_longer, at_last}
 use Rattle.gg_ring.specs.declared.rule.View.{View}
-use Rattle.gg_ring.specs.Rule.{There}
+use Rattle.gg_ring.specs.inside.Rule.{There}
 
 -- a seat's view is changed, and it may do what it could
 pub there-set : (may : View → Bool) (views : List View) (id p : ℕ) (v w : View) → get_elem? views id ≡ some v → (may v ≡ true → may w ≡ true) → There may views p → There may (set views id w) p

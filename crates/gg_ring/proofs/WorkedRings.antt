@@ -4,8 +4,8 @@ use mathlib.Core.Option.{some, some-injective, some-ne-none}
 use lib.ListN.{get_elem?}
 use Rattle.atomic_table.specs.Table.{State}
 use Rattle.gg_ring.specs.declared.rule.View.{View}
-use Rattle.gg_ring.specs.Rule.{low_word, high_word, low, high, StandsLow, StandsHigh, Laid, FitsPut, FitsTake, Holds}
-use Rattle.gg_ring.specs.Views.{putter, taker, saw_head, stored_to, has_put, loaded_low, loaded_high, has_taken}
+use Rattle.gg_ring.specs.inside.Rule.{low_word, high_word, low, high, StandsLow, StandsHigh, Laid, FitsPut, FitsTake, Holds}
+use Rattle.gg_ring.specs.inside.Views.{putter, taker, saw_head, stored_to, has_put, loaded_low, loaded_high, has_taken}
 
 -- ---- words
 

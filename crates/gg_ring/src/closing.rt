@@ -3,7 +3,7 @@ ghost use Rattle.std.specs.Prelude.{◌≡◌, ℕ, ◌+◌, ◌*◌, ◌-◌, �
 ghost use Rattle.std.specs.VecDeque.{deque_items, deque_len, deque_capacity};
 ghost use Rattle.std.specs.Mem.Slots.{slots_items, slots_len, IsFull};
 ghost use Rattle.gg_link.specs.Seats.{between, WithinCapacity};
-ghost use Rattle.gg_ring.specs.Rule.{low_word, high_word};
+ghost use Rattle.gg_ring.specs.inside.Rule.{low_word, high_word};
 ghost use Rattle.gg_ring.specs.Seats.{put_state, take_state, IsPutSeatOf, IsTakeSeatOf};
 
 use crate::halves::joined;

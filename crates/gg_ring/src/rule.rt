@@ -34,8 +34,8 @@ pub(crate) struct RingRule;
 
 impl TableRule<(), View, u64> for RingRule {
     ghost use Rattle.std.specs.Prelude.{[]};
-    ghost use Rattle.gg_ring.specs.Rule.{Holds};
-    ghost use Rattle.gg_ring.specs.Views.{whole};
+    ghost use Rattle.gg_ring.specs.inside.Rule.{Holds};
+    ghost use Rattle.gg_ring.specs.inside.Views.{whole};
 
     ghost holds = { λ places s. Holds places s };
 
@@ -47,7 +47,7 @@ pub(crate) struct LoadHead;
 
 impl Play<(), View> for LoadHead {
     ghost use Rattle.std.specs.Prelude.{◌≡◌, ◌≤◌, ◌+◌};
-    ghost use Rattle.gg_ring.specs.Views.{saw_head};
+    ghost use Rattle.gg_ring.specs.inside.Views.{saw_head};
 
     ghost then = { λ _ m n w. (w ≡ (saw_head m.0 n, m.1)) × (m.0.known_takes ≤ n) × (n ≤ m.0.put) × (m.0.put ≤ n + m.0.capacity) };
 }
@@ -57,7 +57,7 @@ pub(crate) struct StoreLow;
 
 impl Play<(), View> for StoreLow {
     ghost use Rattle.std.specs.Prelude.{◌≡◌};
-    ghost use Rattle.gg_ring.specs.Views.{stored_to};
+    ghost use Rattle.gg_ring.specs.inside.Views.{stored_to};
 
     ghost then = { λ _ m n w. w ≡ (stored_to m.0 1, m.1) };
 }
@@ -67,7 +67,7 @@ pub(crate) struct StoreHigh;
 
 impl Play<(), View> for StoreHigh {
     ghost use Rattle.std.specs.Prelude.{◌≡◌};
-    ghost use Rattle.gg_ring.specs.Views.{stored_to};
+    ghost use Rattle.gg_ring.specs.inside.Views.{stored_to};
 
     ghost then = { λ _ m n w. w ≡ (stored_to m.0 2, m.1) };
 }
@@ -77,7 +77,7 @@ pub(crate) struct StoreTail;
 
 impl Play<(), View> for StoreTail {
     ghost use Rattle.std.specs.Prelude.{◌≡◌};
-    ghost use Rattle.gg_ring.specs.Views.{has_put};
+    ghost use Rattle.gg_ring.specs.inside.Views.{has_put};
 
     ghost then = { λ _ m n w. w ≡ (has_put m.0, m.1) };
 }
@@ -87,7 +87,7 @@ pub(crate) struct LoadTail;
 
 impl Play<(), View> for LoadTail {
     ghost use Rattle.std.specs.Prelude.{◌≡◌, ◌≤◌, ◌+◌, length};
-    ghost use Rattle.gg_ring.specs.Views.{saw_tail};
+    ghost use Rattle.gg_ring.specs.inside.Views.{saw_tail};
 
     ghost then = { λ _ m n w. (w ≡ (saw_tail m.0 n, m.1)) × (m.0.known_puts ≤ n) × (m.0.taken ≤ n) × (n ≤ length m.0.stream) };
 }
@@ -97,8 +97,8 @@ pub(crate) struct LoadLow;
 
 impl Play<(), View> for LoadLow {
     ghost use Rattle.std.specs.Prelude.{◌≡◌, slice_index};
-    ghost use Rattle.gg_ring.specs.Rule.{low};
-    ghost use Rattle.gg_ring.specs.Views.{loaded_low};
+    ghost use Rattle.gg_ring.specs.inside.Rule.{low};
+    ghost use Rattle.gg_ring.specs.inside.Views.{loaded_low};
 
     ghost then = { λ _ m n w. (w ≡ (loaded_low m.0 n, m.1)) × (n ≡ low (slice_index m.0.stream m.0.taken)) };
 }
@@ -108,8 +108,8 @@ pub(crate) struct LoadHigh;
 
 impl Play<(), View> for LoadHigh {
     ghost use Rattle.std.specs.Prelude.{◌≡◌, slice_index};
-    ghost use Rattle.gg_ring.specs.Rule.{high};
-    ghost use Rattle.gg_ring.specs.Views.{loaded_high};
+    ghost use Rattle.gg_ring.specs.inside.Rule.{high};
+    ghost use Rattle.gg_ring.specs.inside.Views.{loaded_high};
 
     ghost then = { λ _ m n w. (w ≡ (loaded_high m.0 n, m.1)) × (n ≡ high (slice_index m.0.stream m.0.taken)) };
 }
@@ -119,7 +119,7 @@ pub(crate) struct StoreHead;
 
 impl Play<(), View> for StoreHead {
     ghost use Rattle.std.specs.Prelude.{◌≡◌};
-    ghost use Rattle.gg_ring.specs.Views.{has_taken};
+    ghost use Rattle.gg_ring.specs.inside.Views.{has_taken};
 
     ghost then = { λ _ m n w. w ≡ (has_taken m.0, m.1) };
 }
@@ -140,7 +140,7 @@ pub(crate) struct OpenSeats<K> {
 
 impl<K: Chosen> Split<View> for OpenSeats<K> {
     ghost use Rattle.std.specs.Prelude.{◌+◌};
-    ghost use Rattle.gg_ring.specs.Views.{putter, taker};
+    ghost use Rattle.gg_ring.specs.inside.Views.{putter, taker};
 
     ghost left = { λ v. putter K.chosen v.capacity 0 (v.moves + 1) };
 
@@ -152,7 +152,7 @@ pub(crate) struct SplitSeats;
 
 impl Split<View> for SplitSeats {
     ghost use Rattle.std.specs.Prelude.{◌+◌};
-    ghost use Rattle.gg_ring.specs.Views.{putter, taker};
+    ghost use Rattle.gg_ring.specs.inside.Views.{putter, taker};
 
     ghost left = { λ v. putter v.stream v.capacity v.put (v.moves + 1) };
 
@@ -164,7 +164,7 @@ pub(crate) struct JoinSeats;
 
 impl Join<View> for JoinSeats {
     ghost use Rattle.std.specs.Prelude.{◌+◌};
-    ghost use Rattle.gg_ring.specs.Views.{whole, spent};
+    ghost use Rattle.gg_ring.specs.inside.Views.{whole, spent};
 
     ghost both = { λ v w. whole v.stream v.capacity v.put w.taken (v.moves + 1) };
 

@@ -16,7 +16,7 @@ use Rattle.gg_cut_plan.specs.declared.plan.Body.{Body}
 use Rattle.gg_cut_plan.specs.declared.plan.Body.TheVariants.{Cut, Memory, Source, Tray, Bridge}
 use Rattle.gg_cut_plan.specs.declared.plan.Plan.{Plan}
 use Rattle.gg_cut_reference.proofs.FittingLemmas.OpenLemmas.{ins-count}
-use Rattle.gg_rows.specs.Trays.{body_is_inner, body_is_tray, is_inner, is_tray}
+use Rattle.gg_rows.specs.inside.Trays.{body_is_inner, body_is_tray, is_inner, is_tray}
 
 -- ---- how many items at the front pass a test
 

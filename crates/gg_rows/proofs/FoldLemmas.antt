@@ -2,16 +2,17 @@
 use Rattle.std.proofs.Common.{◌≡◌, ℕ, zero, suc, ◌+◌, ◌<◌, ◌≤◌, List, [], length, get_or, sym, ap, ◌∙◌, subst, arith}
 use Rattle.std.specs.Prelude.{Bool, true, false, Ok, Err, slice_index}
 use Rattle.std.proofs.lemmas.List.{get_or-map}
-use Rattle.gg_rows.specs.Folded.{IsFolded}
+use Rattle.gg_rows.specs.inside.Folded.{IsFolded}
 use Rattle.gg_rows.specs.declared.fold.Fold.{Fold}
 use Rattle.gg_flat.specs.Circuit.{FlatCircuit}
 use Rattle.gg_flat.specs.Line.{value_at}
 use Rattle.gg_flat.specs.Run.{row_at}
 use Rattle.gg_io.specs.declared.endings.Ending.TheVariants.{NoMemory}
-use Rattle.gg_rows.specs.Rows.{outputs_in}
-use Rattle.gg_rows.specs.Sums.{FoldsRow, FoldsRows, output_column}
-use Rattle.gg_rows.specs.Taken.{Took, TookTo}
-use Rattle.gg_rows.specs.Taken.Took.{All, Last, Fails, Wants}
+use Rattle.gg_rows.specs.inside.Rows.{outputs_in}
+use Rattle.gg_rows.specs.inside.Sums.{FoldsRow, FoldsRows}
+use Rattle.gg_rows.specs.Sums.{output_column}
+use Rattle.gg_rows.specs.inside.Taken.{Took, TookTo}
+use Rattle.gg_rows.specs.inside.Taken.Took.{All, Last, Fails, Wants}
 
 -- a value of a row is one of its column
 row-value : (circuit : FlatCircuit) (rows : List (List ℕ)) (t k : ℕ) (outs : List ℕ) → t < length rows → k < length circuit.outs → outs ≡ outputs_in circuit rows t

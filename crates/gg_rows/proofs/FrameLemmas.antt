@@ -3,7 +3,7 @@ use Rattle.std.proofs.Common.{◌≡◌, ℕ, ◌<◌, length, sym, ap, ◌∙�
 use Rattle.std.proofs.lemmas.List.{get_or-map, length-map}
 use Rattle.gg_node.specs.Machine.{no_machine, machine_at}
 use Rattle.gg_net.specs.Network.{Network, Frame, Kind, frame_of, kind_of, kind_at, no_kind}
-use Rattle.gg_measure.specs.Nets.{dues_at}
+use Rattle.gg_measure.specs.inside.Nets.{dues_at}
 
 module _ (old new : Network) (same : frame_of new ≡ frame_of old) where
   pub same-machines : length new.machines ≡ length old.machines

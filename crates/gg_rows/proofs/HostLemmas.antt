@@ -2,14 +2,15 @@
 use Rattle.std.proofs.Common.{◌≡◌, ℕ, List, [], ◌∷◌, zero, suc, None, map, get_or, sym, ap, ◌∙◌, subst, arith}
 use Rattle.std.specs.Prelude.{Contains, Option, unwrap_or}
 use Rattle.std.proofs.lemmas.List.{get_or-map, length-map}
-use Rattle.gg_node.specs.Machine.{Behaviour, GivesColumn, IsTray, KeepsLast, Machine, RunsPiece, kept_value, machine_at}
-use Rattle.gg_fame5.specs.Lane.{Laned, lane_machine}
-use Rattle.gg_fame5.specs.Shared.{Sharing}
-use Rattle.gg_fame5.specs.Shared as shared
-use Rattle.gg_build.specs.Node.{machine_of, machines_of}
+use Rattle.gg_node.specs.Machine.{Behaviour, GivesColumn, KeepsLast, Machine, RunsPiece, kept_value, machine_at}
+use Rattle.gg_node.specs.inside.Machine.{IsTray}
+use Rattle.gg_fame5.specs.inside.Lane.{Laned, lane_machine}
+use Rattle.gg_fame5.specs.inside.Shared.{Sharing}
+use Rattle.gg_fame5.specs.inside.Shared as shared
+use Rattle.gg_build.specs.inside.Node.{machine_of, machines_of}
 use Rattle.gg_build.specs.declared.node.Node.{Node}
 use Rattle.gg_build.specs.declared.node.Node.TheVariants as node
-use Rattle.gg_rows.specs.Rows.{told_by, told_value}
+use Rattle.gg_rows.specs.inside.Rows.{told_by, told_value}
 
 -- what is told, by what the machine is
 told-by : (machine : Machine) (cycle : ℕ) (value : Option ℕ) → (IsTray machine.behaviour → value ≡ kept_value machine cycle) → (¬ IsTray machine.behaviour → value ≡ None)

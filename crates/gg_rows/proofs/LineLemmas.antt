@@ -3,7 +3,7 @@ use Rattle.std.proofs.Common.{◌≡◌, ℕ, List, ◌++◌, ap, ◌∙◌}
 use Rattle.std.specs.Prelude.{Result, Err}
 use Rattle.std.specs.Io.KnownBytes.{append_known}
 use Rattle.gg_io.specs.declared.output.Sink
-use Rattle.gg_io.specs.Endings.{PrintsOn}
+use Rattle.gg_io.specs.inside.Endings.{PrintsOn}
 use Rattle.gg_io.specs.WentOn.{SinkWentOn}
 use Rattle.gg_io.specs.declared.endings.Ending.{Ending}
 use Rattle.gg_io.proofs.WritingLemmas.{append_known-append, on-then, prints-first, prints-then}

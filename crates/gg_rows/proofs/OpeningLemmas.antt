@@ -11,7 +11,8 @@ use Rattle.gg_node.specs.Machine.{Machine, latch_at, machine_at}
 use Rattle.gg_node.proofs.EmptyLemmas.{empty-after}
 use Rattle.gg_net.specs.declared.shape.Wire.{Wire}
 use Rattle.gg_net.specs.Kept.{BetweenAt, IsSound, Kept, list_at}
-use Rattle.gg_net.specs.Net.{IsOpening, opening_net}
+use Rattle.gg_net.specs.inside.Net.{IsOpening}
+use Rattle.gg_net.specs.Net.{opening_net}
 use Rattle.gg_net.specs.Network.{Network, entered, entered_by, frame_of, got_by, kind_of, opening_queue, queue_at, takes, wire_at}
 use Rattle.gg_net.proofs.OpenLemmas.{machine-open, queue-opens}
 use Rattle.gg_net.proofs.MarkingsLemmas.OpeningLemmas.{none-put}
@@ -22,7 +23,8 @@ use Rattle.gg_build.proofs.PlanLemmas.OpeningLemmas.{built-opening}
 use Rattle.gg_build.proofs.PlanLemmas.PlanLemmas.{plan-no-ring, plan-wired}
 use Rattle.gg_build.proofs.PlanLemmas.SolvedLemmas.{plan-solved}
 use Rattle.gg_build.proofs.PlanLemmas.ZeroLemmas.{built-with-zeros, zero-tokens}
-use Rattle.gg_build.specs.Build.{IsOpeningFrom, IsOpeningOf, IsToRun, IsToRunFrom, run_from_zeros, run_token}
+use Rattle.gg_build.specs.inside.Build.{IsOpeningFrom, IsToRun, run_from_zeros}
+use Rattle.gg_build.specs.Build.{IsOpeningOf, IsToRunFrom, run_token}
 
 -- the queue that a channel opens with, by the token in it
 between-first : (first : Option ℕ) (list : List ℕ) (capacity begin taken entered : ℕ) (queue : List ℕ) → queue ≡ opening_queue first → taken ≡ begin → entered ≡ entered_by first begin → 0 < capacity

@@ -16,15 +16,15 @@ use Rattle.gg_trace.specs.Table.{row_of}
 use Rattle.gg_io.specs.Count.{Rose}
 use Rattle.gg_io.specs.declared.output.Sink
 use Rattle.gg_io.specs.Ends.{IsFront}
-use Rattle.gg_io.specs.Endings.{Prints, PrintsOn}
+use Rattle.gg_io.specs.inside.Endings.{Prints, PrintsOn}
 use Rattle.gg_io.specs.WentOn.{SinkWentOn}
 use Rattle.gg_io.specs.declared.endings.Ending.{Ending}
 use Rattle.gg_io.specs.declared.endings.Ending.TheVariants.{NoMemory, Refused, Unwritten}
 use Rattle.gg_io.proofs.WritingLemmas.{append_known-append, append_known-nil, on-then, prints-more, rose-earlier, stop-within}
-use Rattle.gg_rows.specs.Rows.{outputs_in}
-use Rattle.gg_rows.specs.Printed.{PrintsRow, is_halt, rows_since, rows_to, shown_columns, text_of, text_since}
-use Rattle.gg_rows.specs.Taken.{Took, TookSome, TookTo}
-use Rattle.gg_rows.specs.Taken.Took.{All, Last, Fails, Wants}
+use Rattle.gg_rows.specs.inside.Rows.{outputs_in}
+use Rattle.gg_rows.specs.inside.Printed.{PrintsRow, is_halt, rows_since, rows_to, shown_columns, text_of, text_since}
+use Rattle.gg_rows.specs.inside.Taken.{Took, TookSome, TookTo}
+use Rattle.gg_rows.specs.inside.Taken.Took.{All, Last, Fails, Wants}
 
 -- the outputs of a row of a run are a row of their columns
 pub outputs-row : (circuit : FlatCircuit) (rows : List (List ℕ)) (t : ℕ) → t < length rows → (signals : List ℕ)

@@ -14,14 +14,16 @@ use Rattle.gg_io.specs.declared.output.Sink
 use Rattle.gg_net.specs.Network.{Network}
 use Rattle.gg_order.specs.Design.{Ordered}
 use Rattle.gg_cut_reference.specs.whole.Whole.{plan_circuit}
-use Rattle.gg_io.specs.Endings.{PrintsOn}
+use Rattle.gg_io.specs.inside.Endings.{PrintsOn}
 use Rattle.gg_io.specs.WentOn.{SinkWentOn}
 use Rattle.gg_io.specs.declared.endings.Ending.{Ending}
 use Rattle.gg_trace.specs.Printing.{header_line}
 use Rattle.gg_trace.proofs.LastLaws.{rows-within}
-use Rattle.gg_rows.specs.Printed.{PrintsRow, RowForm, RowsAreKept, is_halt, out_columns, plan_stops, rows_since, text_since}
-use Rattle.gg_rows.specs.Rows.{TraysKeep, run_row}
-use Rattle.gg_rows.specs.Taken.{Ran}
+use Rattle.gg_rows.specs.inside.Printed.{PrintsRow, RowForm, is_halt, out_columns, rows_since, text_since}
+use Rattle.gg_rows.specs.Printed.{RowsAreKept, plan_stops}
+use Rattle.gg_rows.specs.Rows.{TraysKeep}
+use Rattle.gg_rows.specs.inside.Rows.{run_row}
+use Rattle.gg_rows.specs.inside.Taken.{Ran}
 use Rattle.gg_rows.proofs.PrintLemmas.{outputs-row, took-count, took-text}
 
 -- the ratios of the stops' clocks, from the design and the plan

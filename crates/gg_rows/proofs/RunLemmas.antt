@@ -4,7 +4,8 @@ use Rattle.std.specs.Prelude.{Result, Ok, Err}
 use Rattle.std.proofs.lemmas.Bool.{cases_lt}
 use Rattle.gg_flat.specs.Run.{Start}
 use Rattle.gg_flat.specs.Streams.{Flow}
-use Rattle.gg_build.specs.Build.{IsOpeningFrom, IsToRunFrom, run_token}
+use Rattle.gg_build.specs.inside.Build.{IsOpeningFrom}
+use Rattle.gg_build.specs.Build.{IsToRunFrom, run_token}
 use Rattle.gg_cut_plan.specs.Seated.{first_kept_tray, plan_bridges}
 use Rattle.gg_cut_plan.specs.declared.plan.Plan.{Plan}
 use Rattle.gg_net.specs.Network.{AllStandAt, Frame, Network, frame_of}
@@ -12,12 +13,13 @@ use Rattle.gg_net.specs.Kept.{Kept}
 use Rattle.gg_bits.specs.Limits.{tray_rows}
 use Rattle.gg_io.specs.declared.endings.Ending.{Ending}
 use Rattle.gg_io.specs.declared.endings.Ending.TheVariants.{NoMemory}
-use Rattle.gg_rows.specs.Rows.{AreTraysOf, TraysKeep, run_row}
+use Rattle.gg_rows.specs.inside.Rows.{AreTraysOf, run_row}
+use Rattle.gg_rows.specs.Rows.{TraysKeep}
 use Rattle.gg_build.specs.StandsAt.{StandsAt}
-use Rattle.gg_rows.specs.RunTaken.{TakesTheRow, TakesTheRun, TakesTheWindow}
-use Rattle.gg_rows.specs.Taken.{IsRanOut, Ran, TakesSome, Took, TookTo, WentBy}
-use Rattle.gg_rows.specs.Taken.Took.{Wants}
-use Rattle.gg_rows.specs.Window.{window_end}
+use Rattle.gg_rows.specs.inside.RunTaken.{TakesTheRow, TakesTheRun, TakesTheWindow}
+use Rattle.gg_rows.specs.inside.Taken.{IsRanOut, Ran, TakesSome, Took, TookTo, WentBy}
+use Rattle.gg_rows.specs.inside.Taken.Took.{Wants}
+use Rattle.gg_rows.specs.inside.Window.{window_end}
 use Rattle.gg_rows.proofs.OpeningLemmas.{begins-so}
 use Rattle.gg_rows.proofs.OutputLemmas.{net-stays, opening-is-net}
 use Rattle.gg_rows.proofs.TakenLemmas.{count-within, ended-within, row-there, took-all, took-fails, took-last, took-next, went-more, went-none, went-on, went-on-so, went-then}

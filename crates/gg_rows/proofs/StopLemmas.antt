@@ -8,10 +8,10 @@ use Rattle.gg_flat.specs.declared.ports.Port.{Port}
 use Rattle.gg_io.specs.declared.endings.Ending.{Ending}
 use Rattle.gg_io.specs.declared.endings.Ending.TheVariants.{NoMemory}
 use Rattle.gg_trace.specs.Last.{acts}
-use Rattle.gg_rows.specs.Rows.{outputs_in}
-use Rattle.gg_rows.specs.Printed.{IsFirst, SeesStop, ends_run}
-use Rattle.gg_rows.specs.Taken.{TakesSome, Took, TookTo, WentBy}
-use Rattle.gg_rows.specs.Taken.Took.{All, Last, Fails, Wants}
+use Rattle.gg_rows.specs.inside.Rows.{outputs_in}
+use Rattle.gg_rows.specs.inside.Printed.{IsFirst, SeesStop, ends_run}
+use Rattle.gg_rows.specs.inside.Taken.{TakesSome, Took, TookTo, WentBy}
+use Rattle.gg_rows.specs.inside.Taken.Took.{All, Last, Fails, Wants}
 use Rattle.gg_rows.proofs.PrintLemmas.{halts-row, not-not}
 
 same-answer : (a b : Bool) → ◌≡◌ {A = Result Bool Ending} (Ok a) (Ok b) → a ≡ b

@@ -4,13 +4,14 @@ use Rattle.std.specs.Prelude.{Some, None, Ok}
 use Rattle.gg_flat.specs.Clock.{Ratio}
 use Rattle.gg_flat.specs.Streams.{Flow}
 use Rattle.gg_flat.specs.declared.ports.Port.{Port}
-use Rattle.gg_build.specs.Build.{IsToRun, run_from_zeros}
+use Rattle.gg_build.specs.inside.Build.{IsToRun, run_from_zeros}
 use Rattle.gg_cut_plan.specs.declared.plan.Plan.{Plan}
 use Rattle.gg_net.specs.Network.{Network}
 use Rattle.gg_cut_reference.specs.whole.Whole.{plan_circuit}
-use Rattle.gg_rows.specs.Printed.{IsFirst, SeesStop, ends_run, plan_stops}
-use Rattle.gg_rows.specs.Rows.{run_row}
-use Rattle.gg_rows.specs.Taken.{Ran}
+use Rattle.gg_rows.specs.inside.Printed.{IsFirst, SeesStop, ends_run}
+use Rattle.gg_rows.specs.Printed.{plan_stops}
+use Rattle.gg_rows.specs.inside.Rows.{run_row}
+use Rattle.gg_rows.specs.inside.Taken.{Ran}
 use Rattle.gg_rows.proofs.StopLemmas.{saw-first, saw-none}
 
 module _ {plan : Plan} {columns : List (List ℕ)} {n : ℕ} {flow : Flow} (run : IsToRun plan columns n flow) (ports : List Port) (stops : List Ratio) (shown cycles : ℕ)

@@ -3,8 +3,8 @@ use Rattle.std.proofs.Common.{◌≡◌, ℕ, zero, suc, ◌+◌, ◌<◌, ◌�
 use Rattle.std.specs.Prelude.{Result, Ok, Err, IfErr}
 use Rattle.gg_io.specs.declared.endings.Ending.{Ending}
 use Rattle.gg_io.specs.declared.endings.Ending.TheVariants.{NoMemory}
-use Rattle.gg_rows.specs.Taken.{TakesSome, Took, TookSome, TookTo, WentBy}
-use Rattle.gg_rows.specs.Taken.Took.{All, Last, Fails, Wants}
+use Rattle.gg_rows.specs.inside.Taken.{TakesSome, Took, TookSome, TookTo, WentBy}
+use Rattle.gg_rows.specs.inside.Taken.Took.{All, Last, Fails, Wants}
 
 -- ---- whatever the rows
 

@@ -8,7 +8,7 @@ use Rattle.gg_flat.specs.Line.{value_at}
 use Rattle.gg_flat.specs.Run.{row_at, column}
 use Rattle.gg_flat.specs.Streams.{Flow}
 use Rattle.gg_flat.specs.declared.ports.Port.{Port}
-use Rattle.gg_build.specs.Build.{IsToRun, run_from_zeros}
+use Rattle.gg_build.specs.inside.Build.{IsToRun, run_from_zeros}
 use Rattle.gg_cut_plan.specs.Seated.{first_kept_tray, plan_bridges}
 use Rattle.gg_cut_plan.specs.declared.plan.Plan.{Plan}
 use Rattle.gg_cut_reference.specs.Follows.{plan_start}
@@ -17,10 +17,12 @@ use Rattle.gg_trace.specs.Last.{acts, halts, row_count}
 use Rattle.gg_trace.specs.Printing.{row_line, trace_text}
 use Rattle.gg_trace.specs.Table.{row_of}
 use Rattle.gg_trace.proofs.LastLaws.{rows-agree, rows-within}
-use Rattle.gg_rows.specs.Rows.{TraysKeep, outputs_in}
+use Rattle.gg_rows.specs.Rows.{TraysKeep}
+use Rattle.gg_rows.specs.inside.Rows.{outputs_in}
 use Rattle.gg_rows.proofs.OpeningLemmas.{from-zeros}
 use Rattle.gg_rows.proofs.TrayKeepLemmas.{trays-only}
-use Rattle.gg_rows.specs.Printed.{AreKept, is_halt, out_columns, plan_stops, rows_to, shown_columns, text_of}
+use Rattle.gg_rows.specs.Printed.{AreKept, plan_stops}
+use Rattle.gg_rows.specs.inside.Printed.{is_halt, out_columns, rows_to, shown_columns, text_of}
 use Rattle.gg_rows.proofs.PrintLemmas.{outputs-row}
 
 -- texts with the same rows are the same

@@ -11,24 +11,27 @@ use Rattle.gg_cut_reference.specs.whole.Whole.{plan_circuit}
 use Rattle.gg_net.specs.declared.event.Event.{Event}
 use Rattle.gg_net.specs.declared.shape.Wire.{Wire}
 use Rattle.gg_net.specs.Kept.{Kept}
-use Rattle.gg_net.specs.Net.{IsOpening, opening_net}
+use Rattle.gg_net.specs.inside.Net.{IsOpening}
+use Rattle.gg_net.specs.Net.{opening_net}
 use Rattle.gg_net.specs.Network.{Network, frame_of, AllStandAt}
 use Rattle.gg_node.specs.Machine.{Machine, kept_value, machine_at}
-use Rattle.gg_net.specs.markings.Fits.{HasLayout, marking_of}
-use Rattle.gg_net.specs.markings.LayoutOf.{layout_of}
+use Rattle.gg_net.specs.inside.Fits.{HasLayout, marking_of}
+use Rattle.gg_net.specs.inside.LayoutOf.{layout_of}
 use Rattle.gg_net.specs.markings.Marking.{Layout, Marking}
 use Rattle.gg_net.specs.markings.Steps.{Steps}
 use Rattle.gg_net.proofs.MarkingsLemmas.LayoutLemmas.{has-layout}
 use Rattle.gg_net.proofs.MarkingsLemmas.OpeningLemmas.{opens-so}
 use Rattle.gg_net.proofs.MarkingsLemmas.StepsLemmas.{steps-frame, steps-kept}
-use Rattle.gg_net.specs.markings.Counts.{AreAtMost, counts_of}
+use Rattle.gg_net.specs.inside.Counts.{AreAtMost, counts_of}
 use Rattle.gg_net.proofs.MarkingsLemmas.EndLemmas.{opening-lowest}
 use Rattle.gg_measure.proofs.NetLemmas.{allowed-of, begun-of, can-run}
 use Rattle.gg_measure.proofs.WayLemmas.{steps-up}
 use Rattle.gg_build.specs.plan.Built.{wires_of_plan}
 use Rattle.gg_bits.specs.Limits.{tray_rows}
-use Rattle.gg_build.specs.Build.{IsOpeningFrom, IsToRunFrom, run_token}
-use Rattle.gg_rows.specs.Rows.{TraysKeep, outputs_in}
+use Rattle.gg_build.specs.inside.Build.{IsOpeningFrom}
+use Rattle.gg_build.specs.Build.{IsToRunFrom, run_token}
+use Rattle.gg_rows.specs.Rows.{TraysKeep}
+use Rattle.gg_rows.specs.inside.Rows.{outputs_in}
 use Rattle.gg_build.specs.StandsAt.{IsNetOfPlan}
 use Rattle.gg_rows.proofs.OpeningLemmas.{begins-so, opening-kept}
 use Rattle.gg_rows.proofs.OutputLemmas.{keeps, keeps-only, net-stays, opening-is-net}

@@ -7,7 +7,7 @@ use Rattle.gg_node.specs.Machine.{KeepsLast, Machine, machine_at, kept_value}
 use Rattle.gg_net.specs.Network.{Network, wire_at}
 use Rattle.gg_net.specs.Kept.{Kept, HasKept, Keeps, list_at}
 use Rattle.gg_net.proofs.TrayLemmas.{tells, tells-only}
-use Rattle.gg_rows.specs.Rows.{StillHas, told_by, told_value}
+use Rattle.gg_rows.specs.inside.Rows.{StillHas, told_by, told_value}
 
 -- machine m, which is a tray at the end of channel c, has kept the last values of the channel
 has-kept : (flow : Flow) (net : Network) (m c rows : ℕ) → Kept flow net → m < length net.machines → c < length net.wires → (wire_at net.wires c).consumer ≡ m → (machine_at net.machines m).behaviour ≡ KeepsLast rows

@@ -16,7 +16,8 @@ use Rattle.gg_cut_reference.proofs.FittingLemmas.OpenLemmas.{outs-count}
 use Rattle.gg_cut_reference.specs.Follows.{plan_token}
 use Rattle.gg_cut_reference.specs.Links.{taken_as}
 use Rattle.gg_net.specs.Kept.{list_at}
-use Rattle.gg_cut_reference.specs.whole.Whole.{RunsWhole, plan_circuit}
+use Rattle.gg_cut_reference.specs.inside.Whole.{RunsWhole}
+use Rattle.gg_cut_reference.specs.whole.Whole.{plan_circuit}
 use Rattle.gg_cut_reference.proofs.WholeLemmas.PortLemmas.{plan-outs}
 use Rattle.gg_cut_reference.proofs.WholeLemmas.RunLemmas.{whole-runs}
 use Rattle.gg_build.specs.plan.Built.{IsGiven}

@@ -5,10 +5,10 @@ use Rattle.std.proofs.lemmas.Result.{IfOk-weaker}
 use Rattle.gg_flat.specs.Streams.{Flow}
 use Rattle.gg_net.specs.Network as network
 use Rattle.gg_net.specs.Network.{Network, frame_of}
-use Rattle.gg_measure.specs.Nets.{StaysWithin, dues_at}
+use Rattle.gg_measure.specs.inside.Nets.{StaysWithin, dues_at}
 use Rattle.gg_net.specs.Network.{cycle_at}
 use Rattle.gg_workers.specs.Work.{CountsRose, IsLater}
-use Rattle.gg_rows.specs.Window.{GoesWithin}
+use Rattle.gg_rows.specs.inside.Window.{GoesWithin}
 use Rattle.gg_rows.proofs.FrameLemmas.{same-machines, same-wires, dues-same}
 
 twice : (bound old middle new : ℕ) → middle ≤ max bound old → new ≤ max bound middle → new ≤ max bound old

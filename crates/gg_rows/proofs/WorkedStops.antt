@@ -2,7 +2,7 @@
 use Rattle.std.proofs.Common.{◌≡◌, ℕ, zero, suc, ◌<◌, [], ◌∷◌, Bool, true, false, refl, arith}
 use Rattle.std.specs.Prelude.{Some, None, Result, Ok, nat_eq, nat_lt}
 use Rattle.gg_io.specs.declared.endings.Ending.{Ending}
-use Rattle.gg_rows.specs.Printed.{IsFirst, SeesStop}
+use Rattle.gg_rows.specs.inside.Printed.{IsFirst, SeesStop}
 
 -- a stop that acts in cycle 3 is noted
 noted : SeesStop [] 1 5 0 3 (7 ∷ 1 ∷ []) 3 (Ok false)

@@ -4,8 +4,8 @@ use Rattle.std.specs.Prelude.{Result, Ok, Err, if◌then◌else◌, nat_eq, not}
 use Rattle.gg_flat.specs.Line.{value_at}
 use Rattle.gg_io.specs.declared.endings.Ending.{Ending}
 use Rattle.gg_io.specs.declared.endings.Ending.TheVariants.{NoMemory, Unwritten}
-use Rattle.gg_rows.specs.Taken.{Took, TookTo}
-use Rattle.gg_rows.specs.Taken.Took.{All, Last, Fails, Wants}
+use Rattle.gg_rows.specs.inside.Taken.{Took, TookTo}
+use Rattle.gg_rows.specs.inside.Taken.Took.{All, Last, Fails, Wants}
 
 abbrev row : ℕ → List ℕ
 row t = t ∷ []

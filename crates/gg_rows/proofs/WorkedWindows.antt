@@ -7,7 +7,7 @@ use Rattle.gg_node.specs.Machine.{Machine, kept_value, machine_at, no_state, sou
 use Rattle.gg_net.specs.declared.event.Event.{Event}
 use Rattle.gg_net.specs.declared.event.Event.TheVariants.{Finish, Fire, Latch}
 use Rattle.gg_net.specs.Kept.{BetweenAt, Kept, NeedsChannel, list_at}
-use Rattle.gg_net.specs.Net.{IsOpening}
+use Rattle.gg_net.specs.inside.Net.{IsOpening}
 use Rattle.gg_net.specs.Network.{Kind, Network, entered, frame_of, queue_at, takes, wire_at}
 use Rattle.gg_net.specs.Step.{Step}
 use Rattle.gg_net.proofs.OpenLemmas.{machine-open}
@@ -15,7 +15,7 @@ use Rattle.gg_net.proofs.WorkedNets.{fed, fed_flow, fed_wires, fed-solved, fed-w
 use Rattle.gg_net.specs.markings.Steps.{Steps}
 use Rattle.gg_net.proofs.MarkingsLemmas.StepsLemmas.{steps-frame, steps-kept}
 use Rattle.gg_rows.specs.Rows.{TraysKeep}
-use Rattle.gg_rows.specs.Window.{window_end}
+use Rattle.gg_rows.specs.inside.Window.{window_end}
 use Rattle.gg_rows.proofs.FrameLemmas.{kind-same, same-end, same-machines, same-wires}
 use Rattle.gg_rows.proofs.TrayLemmas.{tray-only}
 

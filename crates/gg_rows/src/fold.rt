@@ -16,7 +16,7 @@ pub struct Fold {
 }
 
 impl Fold {
-    ghost use Rattle.gg_rows.specs.Folded.{IsFolded};
+    ghost use Rattle.gg_rows.specs.inside.Folded.{IsFolded};
 
     /// Of no row.
     pub fn new() -> Fold

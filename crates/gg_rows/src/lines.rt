@@ -1,7 +1,7 @@
 //! The lines of the summary are written.
 ghost use Rattle.std.specs.Prelude.{◌≡◌, List, ℕ, IfOk, string_bytes};
-ghost use Rattle.gg_rows.specs.Sums.{sums_text};
-ghost use Rattle.gg_io.specs.Endings.{PrintsOn};
+ghost use Rattle.gg_rows.specs.inside.Sums.{sums_text};
+ghost use Rattle.gg_io.specs.inside.Endings.{PrintsOn};
 ghost use Rattle.gg_io.specs.WentOn.{SinkWentOn};
 
 use crate::sums::Sums;

@@ -1,6 +1,6 @@
 //! `RowPrinter`: rows are written.
 ghost use Rattle.std.specs.Prelude.{◌≡◌, ◌≤◌, length};
-ghost use Rattle.gg_rows.specs.Printed.{PrintsRow};
+ghost use Rattle.gg_rows.specs.inside.Printed.{PrintsRow};
 
 use crate::taking::Rows;
 use gg_clocks::Ratio;
@@ -21,7 +21,7 @@ pub struct RowPrinter<'p> {
 }
 
 impl<'p> Model for RowPrinter<'p> {
-    ghost use Rattle.gg_rows.specs.Printed.{RowForm};
+    ghost use Rattle.gg_rows.specs.inside.Printed.{RowForm};
 
     ghost Value = { RowForm };
 

@@ -1,10 +1,10 @@
 //! `print_net`, `print_from`: the run of the reference circuit of a plan is printed from the plan's network.
 ghost use Rattle.std.specs.Prelude.{◌≡◌, ◌+◌, ◌≤◌, IfOk, length};
-ghost use Rattle.gg_build.specs.Build.{HasBridges, IsToRun};
+ghost use Rattle.gg_build.specs.inside.Build.{HasBridges, IsToRun};
 ghost use Rattle.gg_net.specs.Network.{AllStandAt};
 ghost use Rattle.gg_cut_reference.specs.whole.Whole.{plan_circuit};
 ghost use Rattle.gg_io.specs.WentOn.{SinkWentOn};
-ghost use Rattle.gg_rows.specs.RunPrinted.{PrintsTheRest, PrintsTheRun, RestIsKept, RunIsKept};
+ghost use Rattle.gg_rows.specs.inside.RunPrinted.{PrintsTheRest, PrintsTheRun, RestIsKept, RunIsKept};
 
 use crate::printer::RowPrinter;
 use crate::run::run_rows;

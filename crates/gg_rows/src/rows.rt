@@ -3,8 +3,8 @@ ghost use Rattle.std.specs.Prelude.{◌≡◌, ℕ, ◌+◌, ◌<◌, ◌≤◌,
 ghost use Rattle.gg_flat.specs.Line.{value_at};
 ghost use Rattle.gg_node.specs.Machine.{machine_at};
 ghost use Rattle.gg_net.specs.Kept.{list_at};
-ghost use Rattle.gg_rows.specs.Rows.{StillHas, told_value};
-ghost use Rattle.gg_rows.specs.RunPrinted.{AreOutputsOf};
+ghost use Rattle.gg_rows.specs.inside.Rows.{StillHas, told_value};
+ghost use Rattle.gg_rows.specs.inside.RunPrinted.{AreOutputsOf};
 
 use gg_bridge::Bridge;
 use gg_build::Node;

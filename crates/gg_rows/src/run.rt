@@ -2,8 +2,8 @@
 ghost use Rattle.std.specs.Prelude.{◌+◌, ◌≤◌, IfOk, length};
 ghost use Rattle.gg_bits.specs.Limits.{cycle_limit};
 ghost use Rattle.gg_net.specs.Network.{AllStandAt};
-ghost use Rattle.gg_rows.specs.RunTaken.{TakesTheRow, TakesTheRun, TakesTheWindow};
-ghost use Rattle.gg_rows.specs.Taken.{IsRanOut, TakesSome, WentBy, answer_of};
+ghost use Rattle.gg_rows.specs.inside.RunTaken.{TakesTheRow, TakesTheRun, TakesTheWindow};
+ghost use Rattle.gg_rows.specs.inside.Taken.{IsRanOut, TakesSome, WentBy, answer_of};
 
 use crate::rows::output_values;
 use crate::taking::Rows;

@@ -2,8 +2,8 @@
 ghost use Rattle.std.specs.Prelude.{◌≡◌, ◌+◌, ◌≤◌, IfOk, IfErr, None, length};
 ghost use Rattle.gg_net.specs.Network.{AllStandAt};
 ghost use Rattle.gg_net.specs.Network.{frame_of};
-ghost use Rattle.gg_rows.specs.Printed.{SeesStop};
-ghost use Rattle.gg_rows.specs.RunPrinted.{IsFirstStop};
+ghost use Rattle.gg_rows.specs.inside.Printed.{SeesStop};
+ghost use Rattle.gg_rows.specs.inside.RunPrinted.{IsFirstStop};
 
 use crate::run::run_rows;
 use crate::taking::Rows;

@@ -1,8 +1,8 @@
 //! The network of a plan is built, counted and run, and its rows are folded.
 ghost use Rattle.std.specs.Prelude.{◌≡◌, ◌≤◌, IfOk, length};
 ghost use Rattle.gg_cut_reference.specs.whole.Whole.{plan_circuit};
-ghost use Rattle.gg_build.specs.Build.{HasBridges, IsToRun};
-ghost use Rattle.gg_rows.specs.Sums.{AreSums, FoldsRow};
+ghost use Rattle.gg_build.specs.inside.Build.{HasBridges, IsToRun};
+ghost use Rattle.gg_rows.specs.inside.Sums.{AreSums, FoldsRow};
 
 use crate::Fold;
 use crate::run::run_rows;

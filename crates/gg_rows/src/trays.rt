@@ -1,8 +1,8 @@
 //! `Trays`: which machines of a plan are trays.
 ghost use Rattle.std.specs.Prelude.{◌≡◌, ◌≤◌, length};
 ghost use Rattle.std.specs.List.{prefix_len};
-ghost use Rattle.gg_rows.specs.Trays.{is_inner, is_tray};
-ghost use Rattle.gg_rows.specs.RunPrinted.{IsFirstTray, IsTrayCount};
+ghost use Rattle.gg_rows.specs.inside.Trays.{is_inner, is_tray};
+ghost use Rattle.gg_rows.specs.inside.RunPrinted.{IsFirstTray, IsTrayCount};
 
 use gg_cut_plan::{Body, Machine, Plan};
 

@@ -2,7 +2,7 @@
 ghost use Rattle.std.specs.Prelude.{◌≡◌, ℕ, ◌<◌, ◌≤◌, length, IfOk, IfErr};
 ghost use Rattle.gg_net.specs.Network.{frame_of};
 ghost use Rattle.gg_net.specs.Network.{AllStandAt, cycle_at};
-ghost use Rattle.gg_rows.specs.Window.{GoesWithin, window_end};
+ghost use Rattle.gg_rows.specs.inside.Window.{GoesWithin, window_end};
 
 use gg_bits::TRAY_ROWS;
 use gg_flat::Streams;

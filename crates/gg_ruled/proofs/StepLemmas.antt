@@ -9,7 +9,7 @@ use Rattle.crossbeam_queue.proofs.Lists.{at_set, at_snoc}
 use Rattle.gg_link.proofs.StreamLemmas.{value-behind}
 use Rattle.gg_link.proofs.ViewLemmas.{OfEach, of_each-set, at_end, only_first}
 use Rattle.gg_ruled.specs.declared.rule.View.{View}
-use Rattle.gg_ruled.specs.Rule.{putter, taker, whole, spent, has_put, has_taken, FitsPut, FitsTake, Fits, Keeps}
+use Rattle.gg_ruled.specs.inside.Rule.{putter, taker, whole, spent, has_put, has_taken, FitsPut, FitsTake, Fits, Keeps}
 
 -- what stands behind a front part, where its first value is known
 rest_is : (xs ys : List ℕ) (v : ℕ) → slice_get (xs ++ ys) (length xs) ≡ Some v → (after : List ℕ) × (ys ≡ v ∷ after)

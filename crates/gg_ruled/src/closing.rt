@@ -2,7 +2,7 @@
 ghost use Rattle.std.specs.Prelude.{◌≡◌, ◌+◌, ◌≤◌, ◌++◌};
 ghost use Rattle.std.specs.VecDeque.{deque_items, deque_len, deque_capacity};
 ghost use Rattle.gg_link.specs.Seats.{between, WithinCapacity};
-ghost use Rattle.gg_ruled.specs.Seats.{put_state, take_state, IsPutSeatOf, IsTakeSeatOf};
+ghost use Rattle.gg_ruled.specs.inside.Seats.{put_state, take_state, IsPutSeatOf, IsTakeSeatOf};
 
 use crate::rule::{JoinSeats, Takes};
 use crate::ruled::{PutSeat, Ruled, TakeSeat};

@@ -9,7 +9,7 @@ use std::marker::Brand;
 use std::sync::Wait;
 
 impl<R: Wait + Copy + Send + Sync> Link for Ruled<R> {
-    ghost use Rattle.gg_ruled.specs.Seats.{put_state, take_state, IsPutSeatOf, IsTakeSeatOf};
+    ghost use Rattle.gg_ruled.specs.inside.Seats.{put_state, take_state, IsPutSeatOf, IsTakeSeatOf};
 
     type Home = R;
 

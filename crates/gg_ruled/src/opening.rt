@@ -3,7 +3,7 @@ ghost use Rattle.std.specs.Prelude.{◌≡◌, ℕ, ◌≤◌, List, [], ◌++�
 ghost use Rattle.std.specs.VecDeque.{deque_items, deque_len, deque_capacity};
 ghost use Rattle.crossbeam_queue.specs.Passes.{view};
 ghost use Rattle.gg_link.specs.Seats.{Starts, stream_limit};
-ghost use Rattle.gg_ruled.specs.Seats.{put_state, take_state, IsPutSeatOf, IsTakeSeatOf};
+ghost use Rattle.gg_ruled.specs.inside.Seats.{put_state, take_state, IsPutSeatOf, IsTakeSeatOf};
 
 use crate::rule::{Chosen, JoinSeats, OpenSeats, Puts, QueueRule, SplitSeats, View};
 use crate::ruled::{PutSeat, Ruled, TakeSeat};

@@ -2,7 +2,7 @@
 ghost use Rattle.std.specs.Prelude.{◌≡◌, ◌+◌, ◌<◌, ◌≤◌, slice_get, Some, MatchResult, MatchOption, length};
 ghost use Rattle.crossbeam_queue.specs.Passes.{view, IsPassOf};
 ghost use Rattle.gg_link.specs.Seats.{Counted, FoundFull, FoundEmpty};
-ghost use Rattle.gg_ruled.specs.Seats.{put_state, take_state, IsPutSeatOf, IsTakeSeatOf};
+ghost use Rattle.gg_ruled.specs.inside.Seats.{put_state, take_state, IsPutSeatOf, IsTakeSeatOf};
 
 use crate::rule::{Puts, Takes};
 use crate::ruled::{PutSeat, Ruled, TakeSeat};

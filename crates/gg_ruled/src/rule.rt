@@ -23,7 +23,7 @@ pub(crate) struct QueueRule;
 
 impl Protocol<u128, View> for QueueRule {
     ghost use Rattle.std.specs.Prelude.{[]};
-    ghost use Rattle.gg_ruled.specs.Rule.{Keeps, whole};
+    ghost use Rattle.gg_ruled.specs.inside.Rule.{Keeps, whole};
 
     ghost holds = { λ items views. Keeps items views };
 
@@ -49,7 +49,7 @@ pub(crate) struct OpenSeats<K> {
 }
 
 impl<K: Chosen> Split<View> for OpenSeats<K> {
-    ghost use Rattle.gg_ruled.specs.Rule.{putter, taker};
+    ghost use Rattle.gg_ruled.specs.inside.Rule.{putter, taker};
 
     ghost left = { λ v. putter K.chosen K.places 0 };
 
@@ -60,7 +60,7 @@ impl<K: Chosen> Split<View> for OpenSeats<K> {
 pub(crate) struct SplitSeats;
 
 impl Split<View> for SplitSeats {
-    ghost use Rattle.gg_ruled.specs.Rule.{putter, taker};
+    ghost use Rattle.gg_ruled.specs.inside.Rule.{putter, taker};
 
     ghost left = { λ v. putter v.stream v.capacity v.put };
 
@@ -71,7 +71,7 @@ impl Split<View> for SplitSeats {
 pub(crate) struct JoinSeats;
 
 impl Join<View> for JoinSeats {
-    ghost use Rattle.gg_ruled.specs.Rule.{whole, spent};
+    ghost use Rattle.gg_ruled.specs.inside.Rule.{whole, spent};
 
     ghost both = { λ v w. whole v.stream v.capacity v.put w.taken };
 
@@ -83,7 +83,7 @@ pub(crate) struct Puts;
 
 impl Outcome<u128, View> for Puts {
     ghost use Rattle.std.specs.Prelude.{◌≡◌};
-    ghost use Rattle.gg_ruled.specs.Rule.{has_put};
+    ghost use Rattle.gg_ruled.specs.inside.Rule.{has_put};
 
     ghost then = { λ v x w. w ≡ has_put v };
 }
@@ -99,7 +99,7 @@ pub(crate) struct Takes;
 
 impl Outcome<u128, View> for Takes {
     ghost use Rattle.std.specs.Prelude.{◌≡◌, slice_get, Some};
-    ghost use Rattle.gg_ruled.specs.Rule.{has_taken};
+    ghost use Rattle.gg_ruled.specs.inside.Rule.{has_taken};
 
     ghost then = { λ v x w. (w ≡ has_taken v) × (slice_get v.stream v.taken ≡ Some x) };
 }

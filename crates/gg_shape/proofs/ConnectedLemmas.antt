@@ -17,7 +17,7 @@ use Rattle.gg_shape.specs.Shape.{is_connected}
 use Rattle.gg_shape.specs.declared.connected.Key.{Key}
 use Rattle.gg_shape.specs.contracts.connected.KeyPartialEq.TheImpl.{eq-value}
 use Rattle.gg_shape.specs.declared.connected.Key.TheVariants.{Local, PortOf, FieldOf}
-use Rattle.gg_shape.specs.Told.{reference_of, is_among, TellsConnected}
+use Rattle.gg_shape.specs.inside.Told.{reference_of, is_among, TellsConnected}
 
 module _ (eq : Key → Key → Bool) (is_same : (a b : Key) → eq a b ≡ same_reference (reference_of a) (reference_of b)) where
   among-keys : (k : Key) (keys : List Key) → list_any (eq k) keys ≡ is_among (map reference_of keys) (reference_of k)

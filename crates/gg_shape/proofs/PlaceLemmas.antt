@@ -12,7 +12,7 @@ use Rattle.gg_shape_names.proofs.FindLemmas.{module-at}
 use Rattle.gg_shape_names.proofs.BlockLemmas.{at-place, at-none}
 use Rattle.gg_shape_names.proofs.ScopeLemmas.{names_after-push, scope_after-push, names-front}
 use Rattle.gg_shape.specs.Shape.{unconnected_among, unconnected_sinks}
-use Rattle.gg_shape.specs.Told.{TellsConnected, TellsFirst, is_among}
+use Rattle.gg_shape.specs.inside.Told.{TellsConnected, TellsFirst, is_among}
 
 pub module-there : (name : List ℕ) (modules : List ModuleTree) → is_some (module_named name modules) ≡ is_some (place_of name (names_of modules))
 module-there name modules = go (place_of name (names_of modules)) refl

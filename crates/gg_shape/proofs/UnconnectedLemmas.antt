@@ -17,10 +17,10 @@ use Rattle.gg_shape_names.specs.declared.role.PortKind.TheVariants.{Reader, Writ
 use Rattle.gg_shape_names.specs.Memory.{as_port, readers_in, writers_in, port_fields}
 use Rattle.gg_shape_names.specs.Modules.{module_at}
 use Rattle.gg_shape_names.specs.Namespace.{module_named, instance_port, instance_ports, port_entries, port_field, memory_entries}
-use Rattle.gg_shape_names.specs.Tables.{readers_of, writers_of}
+use Rattle.gg_shape_names.specs.inside.Tables.{readers_of, writers_of}
 use Rattle.gg_shape_names.proofs.BlockLemmas.{at-place, at-none}
 use Rattle.gg_shape.specs.Shape.{unconnected_entry}
-use Rattle.gg_shape.specs.Told.{is_in, is_input, inputs_of, unconnected_input, unconnected_of_port, unconnected_in_field}
+use Rattle.gg_shape.specs.inside.Told.{is_in, is_input, inputs_of, unconnected_input, unconnected_of_port, unconnected_in_field}
 
 module _ (connected : Reference → Bool) (line : ℕ) where
   -- ---- instances

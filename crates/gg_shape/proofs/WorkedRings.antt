@@ -4,7 +4,8 @@ use Rattle.std.specs.Prelude.{Contains}
 use Rattle.std.specs.List.{IsDistinct}
 use Rattle.gg_ast.specs.Tree.{ModuleTree, CircuitTree}
 use Rattle.gg_shape_names.specs.Modules.{Holds}
-use Rattle.gg_graph.specs.Graph.{node_at, IsOrderOf}
+use Rattle.gg_graph.specs.Graph.{node_at}
+use Rattle.gg_graph.specs.inside.Graph.{IsOrderOf}
 use Rattle.gg_graph.proofs.RingLemmas.{no_ring}
 use Rattle.gg_graph.proofs.WorkedRows.{one, two, five, distinct}
 use Rattle.gg_shape.specs.Rings.{HasNoRing, IsRingOf, ring_names}

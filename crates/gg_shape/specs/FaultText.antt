@@ -11,8 +11,6 @@ use Rattle.gg_shape.specs.declared.fault.MemoryKey.{MemoryKey}
 use Rattle.gg_shape.specs.declared.fault.MemoryKey.TheVariants as keys
 use Rattle.gg_shape.specs.declared.fault.Limit.{Limit}
 use Rattle.gg_shape.specs.declared.fault.Limit.TheVariants as limits
-use Rattle.gg_shape.specs.declared.fault.CheckFault.{CheckFault}
-use Rattle.gg_shape.specs.declared.fault.CheckFault.TheVariants as refusals
 use Rattle.gg_shape.specs.declared.fault.Word.{Word}
 use Rattle.gg_shape.specs.declared.fault.Word.TheVariants as words
 
@@ -77,8 +75,3 @@ fault_text (TooWide line source sink) = on_line (codes "F13") line ++ 32 ∷ (de
 fault_text (WrongClock line name) = on_line (codes "F14") line ++ 32 ∷ name
 fault_text (OverLimit limit count) = codes "F15 " ++ limit_name limit ++ 32 ∷ decimal count
 fault_text (Loop paths) = codes "F16" ++ behind_blanks paths
-
--- what a check returns in place of Ok
-abbrev pub refusal_text : CheckFault → List ℕ
-refusal_text (refusals.F fault) = fault_text fault
-refusal_text refusals.NoMemory = codes "out of memory"

@@ -1,22 +1,9 @@
 -- What a check returns, given the faults in the order of the text.
 -- Source: this program's own.
-pub use Rattle.gg_shape_names.specs.Along.{along, along_from, first}
-use Rattle.std.specs.Prelude.{◌≡◌, Bool, true, false, List, [], ◌∷◌, Some, Result, Ok, Err}
+use Rattle.std.specs.Prelude.{Bool, true, false, List, [], ◌∷◌}
 use Rattle.gg_shape.specs.declared.fault.Fault.{Fault}
-use Rattle.gg_shape.specs.declared.fault.CheckFault.{CheckFault}
-use Rattle.gg_shape.specs.declared.fault.CheckFault.TheVariants.{F, NoMemory}
 
 -- the fault, if the test is true
 abbrev pub fault_if : Bool → Fault → List Fault
 fault_if true fault = fault ∷ []
 fault_if false fault = []
-
--- a refusal is the first fault; `NoMemory` says nothing of the faults
-abbrev pub Refuses : List Fault → CheckFault → Type 0
-Refuses faults (F fault) = first faults ≡ Some fault
-Refuses faults NoMemory = Unit {0}
-
--- what a check returns: Ok exactly if there is no fault, otherwise the first
-abbrev pub Answers : {A : Type 0} → List Fault → Result A CheckFault → Type 0
-Answers faults (Ok _) = faults ≡ []
-Answers faults (Err refusal) = Refuses faults refusal

@@ -3,6 +3,5 @@ pub mod Shape
 pub mod Memories
 pub mod Rings
 pub mod Judged
-pub mod Told
-pub mod Counted
 pub mod FaultText
+pub mod inside

@@ -2,8 +2,8 @@
 ghost use Rattle.std.specs.Prelude.{◌≡◌, ◌++◌, IfOk};
 ghost use Rattle.std.specs.List.{list_any};
 ghost use Rattle.std.specs.Str.{bytes_eq};
-ghost use Rattle.gg_shape.specs.Faults.{Answers};
-ghost use Rattle.gg_shape.specs.Judged.{AnswersShape, AnswersFrom, reference_faults};
+ghost use Rattle.gg_shape.specs.inside.Faults.{Answers};
+ghost use Rattle.gg_shape.specs.inside.Judged.{AnswersShape, AnswersFrom, reference_faults};
 ghost use Rattle.gg_shape.specs.Shape.{in_modules, missing_top, repeated_names, unknown_names, second_connections, unconnected_sinks, connected_sources};
 
 use crate::connections::{check_second, check_sources};

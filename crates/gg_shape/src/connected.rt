@@ -2,7 +2,7 @@
 ghost use Rattle.std.specs.Prelude.{◌≡◌, [], ◌∷◌, ◌++◌, IfOk, OnOk};
 ghost use Rattle.gg_ast.specs.declared.expression.Reference.{Reference as References};
 ghost use Rattle.gg_shape_names.specs.Scope.{written};
-ghost use Rattle.gg_shape.specs.Told.{reference_of, is_among};
+ghost use Rattle.gg_shape.specs.inside.Told.{reference_of, is_among};
 
 use gg_ast::Reference;
 use gg_bits::Name;
@@ -78,7 +78,7 @@ impl<'a> Model for Connected<'a> {
 
     ghost Value = { List References };
 
-    ghost use Rattle.gg_shape.specs.Told.{reference_of};
+    ghost use Rattle.gg_shape.specs.inside.Told.{reference_of};
 
     ghost view = { λ connected. map reference_of connected.keys.keys };
 }

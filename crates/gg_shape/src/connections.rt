@@ -2,9 +2,10 @@
 ghost use Rattle.std.specs.Prelude.{◌≡◌, ◌<◌, ◌∷◌, [], ◌++◌, length, IfOk, OnOk, List, flat_map};
 ghost use Rattle.gg_ast.specs.declared.statement.Stmt.{Stmt as AStatement};
 ghost use Rattle.gg_shape_names.specs.Namespace.{scope_of};
-ghost use Rattle.gg_shape.specs.Faults.{Answers, along};
+ghost use Rattle.gg_shape.specs.inside.Faults.{Answers};
+ghost use Rattle.gg_shape.specs.Faults.{along};
 ghost use Rattle.gg_shape.specs.Shape.{in_modules, second_connections, second_by, connected_sources, source_by};
-ghost use Rattle.gg_shape.specs.Told.{TellsConnected, TellsFirst, module_of};
+ghost use Rattle.gg_shape.specs.inside.Told.{TellsConnected, TellsFirst, module_of};
 
 use crate::connected::{Connected, key_of};
 use crate::fault::{CheckFault, Fault};

@@ -1,8 +1,8 @@
 //! F8: memories' fields that are missing, come twice or are out of range.
 ghost use Rattle.std.specs.Prelude.{◌≡◌, ℕ, List, flat_map, option_to_list};
-ghost use Rattle.gg_shape.specs.Faults.{Answers};
+ghost use Rattle.gg_shape.specs.inside.Faults.{Answers};
 ghost use Rattle.gg_shape.specs.Memories.{given_by, given, is_right as stands_right, wrong_field, wrong_fields, wrong_times, wrong_by, memory_faults};
-ghost use Rattle.gg_shape.specs.Counted.{count_of, with_value};
+ghost use Rattle.gg_shape.specs.inside.Counted.{count_of, with_value};
 
 use crate::fault::{CheckFault, Fault, MemoryKey};
 use gg_ast::{Circuit, Field, MemoryField, Stmt, StmtKind};

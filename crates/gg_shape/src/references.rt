@@ -1,9 +1,9 @@
 //! F3: references that name nothing that has a value, and instances of modules that don't exist.
 ghost use Rattle.std.specs.Prelude.{◌≡◌, ◌++◌, ◌<◌, length};
 ghost use Rattle.gg_shape_names.specs.Namespace.{entries_by, name_by};
-ghost use Rattle.gg_shape.specs.Faults.{Answers};
+ghost use Rattle.gg_shape.specs.inside.Faults.{Answers};
 ghost use Rattle.gg_shape.specs.Shape.{in_modules, unknown_names, unknown_module, unknown_reference, unknown_in, unknown_in_reset, unknown_in_arguments, unknown_in_kind};
-ghost use Rattle.gg_shape.specs.Told.{IsBefore, module_of, scope_before};
+ghost use Rattle.gg_shape.specs.inside.Told.{IsBefore, module_of, scope_before};
 
 use crate::fault::{CheckFault, Fault};
 use gg_ast::{Argument, Expr, ExprKind, Reference, Reset, Stmt, StmtKind};

@@ -2,7 +2,7 @@
 ghost use Rattle.std.specs.Prelude.{◌≡◌, ◌<◌, ◌∷◌, ℕ, List, length, map, slice_index, IfOk};
 ghost use Rattle.gg_shape_names.specs.Modules.{module_at};
 ghost use Rattle.gg_shape.specs.Rings.{HasNoRing, IsRingOf, TellsRing, ring_names};
-ghost use Rattle.gg_shape.specs.Judged.{AnswersRing};
+ghost use Rattle.gg_shape.specs.inside.Judged.{AnswersRing};
 
 use crate::fault::{CheckFault, Fault};
 use gg_ast::Circuit;

@@ -55,7 +55,7 @@ impl Error for Fault {}
 /// The fault's text, or that an allocation failed.
 impl fmt::Display for CheckFault {
     ghost use Rattle.std.specs.Prelude.{Some};
-    ghost use Rattle.gg_shape.specs.FaultText.{refusal_text};
+    ghost use Rattle.gg_shape.specs.inside.FaultText.{refusal_text};
 
     ghost output = { λ refusal. Some (refusal_text refusal) };
 

@@ -1,9 +1,9 @@
 //! F5: sinks that are not connected.
 ghost use Rattle.std.specs.Prelude.{◌≡◌, ◌<◌, ◌++◌, List, length, flat_map, map, IfOk};
 ghost use Rattle.gg_shape_names.specs.Namespace.{instance_port, instance_ports, module_named, memory_entries};
-ghost use Rattle.gg_shape.specs.Faults.{Answers};
+ghost use Rattle.gg_shape.specs.inside.Faults.{Answers};
 ghost use Rattle.gg_shape.specs.Shape.{in_modules, unconnected_sinks, unconnected_among, unconnected_entry, unconnected_port, unconnected_by};
-ghost use Rattle.gg_shape.specs.Told.{TellsFirst, is_among, inputs_of, is_in, names_as as names_of_kind, reference_of, unconnected_input, unconnected_of_field, unconnected_of_port, unconnected_in_field};
+ghost use Rattle.gg_shape.specs.inside.Told.{TellsFirst, is_among, inputs_of, is_in, names_as as names_of_kind, reference_of, unconnected_input, unconnected_of_field, unconnected_of_port, unconnected_in_field};
 
 use crate::connected::{Connected, Key, text_of};
 use crate::fault::{CheckFault, Fault};

@@ -5,7 +5,7 @@ use Rattle.gg_shape_names.specs.declared.fault.Repetition.{Repetition}
 use Rattle.gg_shape_names.specs.declared.fault.NamesFault.{NamesFault}
 use Rattle.gg_shape_names.specs.declared.fault.NamesFault.TheVariants.{Repeated, NoMemory}
 use Rattle.gg_shape_names.specs.Along.{along, along_from, first}
-use Rattle.gg_shape_names.specs.Repetitions.{Names}
+use Rattle.gg_shape_names.specs.inside.Repetitions.{Names}
 
 pub first-front : {B : Type 0} (xs ys : List B) (x : B) → first xs ≡ Some x → first (xs ++ ys) ≡ Some x
 first-front [] ys x h = cc

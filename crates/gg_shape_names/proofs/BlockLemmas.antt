@@ -17,11 +17,12 @@ use Rattle.gg_shape_names.specs.declared.role.PortKind.TheVariants.{Reader, Writ
 use Rattle.gg_shape_names.specs.declared.role.PortField.{PortField}
 use Rattle.gg_shape_names.specs.declared.table.Declared.{Declared}
 use Rattle.gg_shape_names.specs.declared.table.Declared.TheVariants.{Plain, Instance, Memory}
-use Rattle.gg_shape_names.specs.Memory.{as_port, port_fields, field_name, field_of}
+use Rattle.gg_shape_names.specs.Memory.{as_port, port_fields, field_name}
+use Rattle.gg_shape_names.specs.inside.Memory.{field_of}
 use Rattle.gg_shape_names.specs.Modules.{module_at}
 use Rattle.gg_shape_names.specs.Namespace.{module_named, instance_port, instance_ports, port_field, port_entries, memory_entries}
 use Rattle.gg_shape_names.specs.Scope.{same_reference, entry_of, first_name}
-use Rattle.gg_shape_names.specs.Tables.{HavePorts, readers_of, writers_of, through, role_of_port_named, field_role, role_of_field}
+use Rattle.gg_shape_names.specs.inside.Tables.{HavePorts, readers_of, writers_of, through, role_of_port_named, field_role, role_of_field}
 use Rattle.gg_bits.specs.Lists.{or_else}
 
 -- These are all entries of what this name declares: a reference that begins with the name stands for what the declaration tells,

@@ -16,7 +16,7 @@ use Rattle.gg_shape_names.specs.declared.table.Declared.{Declared}
 use Rattle.gg_shape_names.specs.Modules.{module_at}
 use Rattle.gg_shape_names.specs.Namespace.{role_of_instance_port, port_names, names_after, scope_of, scope_after, meaning_of}
 use Rattle.gg_shape_names.specs.Scope.{first_name}
-use Rattle.gg_shape_names.specs.Tables.{TellsModule, AreTold, ArePlaced, IsPlaced, names_told, found, role_of_port_named}
+use Rattle.gg_shape_names.specs.inside.Tables.{TellsModule, AreTold, ArePlaced, IsPlaced, names_told, found, role_of_port_named}
 use Rattle.gg_bits.specs.Lists.{find_word}
 use Rattle.gg_shape_names.proofs.ScopeLemmas.{scope-found, found-before}
 use Rattle.gg_shape_names.proofs.TableLemmas.{if_before}

@@ -12,7 +12,7 @@ use Rattle.gg_ast.specs.declared.statement.MemoryField.TheVariants.{DataType, De
 use Rattle.gg_shape_names.specs.Memory.{readers_in, writers_in}
 use Rattle.gg_shape_names.specs.Along.{along}
 use Rattle.gg_shape_names.specs.Repetitions.{ports_in_field, repeated_in_field, repeated_port_of}
-use Rattle.gg_shape_names.specs.Tables.{HaveSame, HavePorts, IsEither, readers_of, writers_of}
+use Rattle.gg_shape_names.specs.inside.Tables.{HaveSame, HavePorts, IsEither, readers_of, writers_of}
 
 -- ---- names one by one
 

@@ -17,12 +17,12 @@ use Rattle.gg_shape_names.specs.declared.role.Role.{Role}
 use Rattle.gg_shape_names.specs.declared.role.Role.TheVariants as roles
 use Rattle.gg_shape_names.specs.declared.table.Declared.{Declared}
 use Rattle.gg_shape_names.specs.declared.table.Declared.TheVariants.{Plain, Instance, Memory}
-use Rattle.gg_shape_names.specs.Declares.{Declares, DeclaresBy}
+use Rattle.gg_shape_names.specs.inside.Declares.{Declares, DeclaresBy}
 use Rattle.gg_shape_names.specs.Namespace.{role_of_port, entry_by_port, entries_by, entries_by_kind, scope_after, name_by, name_by_kind, names_after, port_names}
 use Rattle.gg_shape_names.specs.Repetitions.{repetition_if, repeated_in, repeated_by_kind, repeated_in_field}
 use Rattle.gg_shape_names.specs.Along.{along}
 use Rattle.gg_shape_names.specs.Scope.{entry_of, first_name}
-use Rattle.gg_shape_names.specs.Tables.{TellsScope, ArePlaced, IsPlaced, names_told, found, through, through_found}
+use Rattle.gg_shape_names.specs.inside.Tables.{TellsScope, ArePlaced, IsPlaced, names_told, found, through, through_found}
 use Rattle.gg_bits.specs.Lists.{find_word, or_else}
 use Rattle.gg_shape_names.proofs.BlockLemmas.{IsBlock, entry_of-append, plain-block, instance-block, memory-block, at-place}
 use Rattle.gg_shape_names.proofs.TableLemmas.{some-value_of, none-is_some, value_of-take, if_before}

@@ -26,7 +26,8 @@ use Rattle.gg_shape_names.specs.declared.role.Role.TheVariants.{InputPort, Outpu
 use Rattle.gg_shape_names.specs.declared.role.PortKind.TheVariants.{Reader, Writer}
 use Rattle.gg_shape_names.specs.declared.role.PortField.TheVariants.{Addr, En, Clk, Data, Mask}
 use Rattle.gg_shape_names.specs.Modules.{held_by}
-use Rattle.gg_shape_names.specs.Namespace.{scope_of, scope_after, names_in, meaning_of, is_sink, is_source}
+use Rattle.gg_shape_names.specs.Namespace.{scope_of, scope_after, meaning_of, is_sink, is_source}
+use Rattle.gg_shape_names.specs.inside.Namespace.{names_in}
 use Rattle.gg_shape_names.specs.Repetitions.{repetitions}
 use Rattle.gg_shape_names.specs.Scope.{written}
 

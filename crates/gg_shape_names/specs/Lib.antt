@@ -4,5 +4,4 @@ pub mod Memory
 pub mod Namespace
 pub mod Repetitions
 pub mod Modules
-pub mod Tables
-pub mod Declares
+pub mod inside

@@ -1,7 +1,6 @@
 -- The ports of a memory and their fields (FIRRTL Specification, "Memories"). A reader has the fields addr, en, clk and
 -- data, a writer these and mask. (Readwriters are not in the part of lowered FIRRTL that is read here.)
-use Rattle.std.specs.Prelude.{ℕ, Bool, true, false, List, [], ◌∷◌, ◌++◌, Option, Some, None, map, flat_map, codes, if◌then◌else◌}
-use Rattle.std.specs.Str.{bytes_eq}
+use Rattle.std.specs.Prelude.{ℕ, Bool, true, false, List, [], ◌∷◌, ◌++◌, map, flat_map, codes}
 use Rattle.gg_ast.specs.declared.statement.Field.{Field}
 use Rattle.gg_ast.specs.declared.statement.MemoryField as fields
 use Rattle.gg_ast.specs.declared.statement.MemoryField.TheVariants.{DataType, Depth, ReadLatency, WriteLatency, Readers, Writers, ReadUnderWrite}
@@ -61,8 +60,3 @@ is_answer Reader En = false
 is_answer Reader Clk = false
 is_answer Reader Mask = false
 is_answer Writer field = false
-
--- the field with this text, among these
-abbrev pub field_of : List ℕ → List PortField → Option PortField
-field_of name [] = None
-field_of name (f ∷ fs) = if bytes_eq name (field_name f) then Some f else field_of name fs

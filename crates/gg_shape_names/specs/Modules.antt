@@ -1,8 +1,7 @@
 -- Which modules have instances of which (FIRRTL Specification, "Instances": a module may not have an instance of
 -- itself, directly or through others). Modules are identified by their places in the circuit, counted from 0.
 pub use Rattle.gg_ast.specs.Tree.{module_at}
-use Rattle.std.proofs.Math.Nat.{not-suc-le-zero}
-use Rattle.std.specs.Prelude.{ℕ, List, [], Contains, flat_map, option_to_list, take}
+use Rattle.std.specs.Prelude.{ℕ, List, [], Contains, flat_map, option_to_list}
 use Rattle.gg_ast.specs.Places.{place_of}
 use Rattle.gg_ast.specs.declared.statement.Stmt.{Stmt}
 use Rattle.gg_ast.specs.declared.statement.StmtKind as statements
@@ -29,11 +28,3 @@ held_by modules s = held_by_kind modules s.kind
 -- the module at the first place has an instance of the module at the second
 abbrev pub Holds : List ModuleTree → ℕ → ℕ → Type 0
 Holds modules k j = Contains (flat_map (held_by modules) (module_at modules k).statements) j
-
--- the same, in one of its first n statements
-abbrev pub HoldsBelow : List ModuleTree → ℕ → ℕ → ℕ → Type 0
-HoldsBelow modules k n j = Contains (flat_map (held_by modules) (take n (module_at modules k).statements)) j
-
--- no module has an instance in its first 0 statements
-pub none_held : (modules : List ModuleTree) (k j : ℕ) → HoldsBelow modules k 0 j → ⊥
-none_held modules k j h = not-suc-le-zero h.1

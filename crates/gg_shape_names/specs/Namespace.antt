@@ -1,6 +1,6 @@
 -- What the parts of a module declare, name and connect (FIRRTL Specification, "Namespaces", "Statements", "Instances",
 -- "Memories", "Flows").
-use Rattle.std.specs.Prelude.{◌≡◌, ℕ, Bool, true, false, not, List, [], ◌∷◌, ◌++◌, Option, Some, None, map, flat_map, length, take, if◌then◌else◌}
+use Rattle.std.specs.Prelude.{ℕ, Bool, true, false, not, List, [], ◌∷◌, ◌++◌, Option, Some, None, map, flat_map, if◌then◌else◌}
 use Rattle.std.specs.Str.{bytes_eq}
 use Rattle.gg_ast.specs.declared.expression.Reference.{Reference}
 use Rattle.gg_ast.specs.declared.expression.Reference.TheVariants.{Local, PortOf, FieldOf}
@@ -118,18 +118,6 @@ port_names ports = map (λ (port : Port). port.name) ports
 -- the names that these ports and statements declare
 abbrev pub names_after : List Port → List Stmt → List (List ℕ)
 names_after ports statements = port_names ports ++ flat_map name_by statements
-
--- all names that a module declares, in the order of the file
-abbrev pub names_in : ModuleTree → List (List ℕ)
-names_in m = names_after m.ports m.statements
-
--- What a reference names where only the first `count` names of a module are declared.
-abbrev pub IsMeaningBefore : (modules : List ModuleTree) (m : ModuleTree) (count : ℕ) (reference : Reference) → Option Role → Type 0
-IsMeaningBefore modules m count reference role =
-    -- The ports and the first n statements declare these names.
-    (n : ℕ) → count ≡ length (names_after m.ports (take n m.statements))
-    -- The role is what the reference names in the scope after these statements.
-    → role ≡ meaning_of (scope_after modules m.ports (take n m.statements)) reference
 
 -- ---- values
 

@@ -1,6 +1,6 @@
 -- Names that come twice: of modules, of what a module declares, of a memory's ports (FIRRTL Specification,
 -- "Namespaces"). Each repetition is reported at the later of the two.
-use Rattle.std.specs.Prelude.{◌≡◌, ℕ, Bool, true, false, List, [], ◌∷◌, ◌++◌, flat_map, Result, Ok, Err, Some}
+use Rattle.std.specs.Prelude.{ℕ, Bool, true, false, List, [], ◌∷◌, ◌++◌, flat_map}
 use Rattle.std.specs.List.{list_any}
 use Rattle.std.specs.Str.{bytes_eq}
 use Rattle.gg_ast.specs.declared.module.Port.{Port}
@@ -12,8 +12,6 @@ use Rattle.gg_ast.specs.declared.statement.StmtKind as statements
 use Rattle.gg_ast.specs.declared.statement.StmtKind.TheVariants as kinds
 use Rattle.gg_ast.specs.Tree.{ModuleTree, CircuitTree, names_of}
 use Rattle.gg_shape_names.specs.declared.fault.Repetition.{Repetition}
-use Rattle.gg_shape_names.specs.declared.fault.NamesFault.{NamesFault}
-use Rattle.gg_shape_names.specs.declared.fault.NamesFault.TheVariants.{Repeated, NoMemory}
 use Rattle.gg_shape_names.specs.Along.{along, first}
 use Rattle.gg_shape_names.specs.Namespace.{names_after}
 
@@ -83,15 +81,3 @@ repeated_module before m = repeated_in (names_of before) m.line m.name ++ repeat
 -- all of a circuit, in the order of the text
 abbrev pub repetitions : CircuitTree → List Repetition
 repetitions circuit = along repeated_module circuit.modules
-
--- ---- answers
-
--- a fault is the first repetition; `NoMemory` says nothing of them
-abbrev pub Names : List Repetition → NamesFault → Type 0
-Names all (Repeated repetition) = first all ≡ Some repetition
-Names all NoMemory = Unit {0}
-
--- Ok exactly if no name comes twice, otherwise the first that does
-abbrev pub Tells : {A : Type 0} → List Repetition → Result A NamesFault → Type 0
-Tells all (Ok _) = all ≡ []
-Tells all (Err fault) = Names all fault

@@ -3,8 +3,9 @@ ghost use Rattle.std.specs.Prelude.{◌≡◌, ◌<◌, List, ℕ, length, take,
 ghost use Rattle.gg_ast.specs.declared.expression.Reference.TheVariants.{PortOf as APort, FieldOf as AField};
 ghost use Rattle.gg_ast.specs.Tree.{ModuleTree};
 ghost use Rattle.gg_shape_names.specs.Modules.{module_at};
-ghost use Rattle.gg_shape_names.specs.Namespace.{IsMeaningBefore, names_in, scope_of, meaning_of, role_of_instance_port};
-ghost use Rattle.gg_shape_names.specs.Tables.{AreTold, IsPlaced, names_told, role_of_port_named, through};
+ghost use Rattle.gg_shape_names.specs.inside.Namespace.{IsMeaningBefore, names_in};
+ghost use Rattle.gg_shape_names.specs.Namespace.{scope_of, meaning_of, role_of_instance_port};
+ghost use Rattle.gg_shape_names.specs.inside.Tables.{AreTold, IsPlaced, names_told, role_of_port_named, through};
 
 use crate::memory::field_role;
 use crate::reference::first_name;

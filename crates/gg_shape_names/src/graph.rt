@@ -1,6 +1,7 @@
 //! The graph of modules.
 ghost use Rattle.std.specs.Prelude.{◌≡◌, ◌<◌, ◌^◌, ℕ, List, length, take, Contains, flat_map, IfSome, IfNone, ◌⊎◌, option_to_list};
-ghost use Rattle.gg_shape_names.specs.Modules.{Holds, HoldsBelow, held_by};
+ghost use Rattle.gg_shape_names.specs.Modules.{Holds, held_by};
+ghost use Rattle.gg_shape_names.specs.inside.Modules.{HoldsBelow};
 
 use crate::namespace::Namespace;
 use gg_ast::{Circuit, Stmt, StmtKind};
@@ -10,7 +11,8 @@ use gg_graph::{Graph, Target};
 /// Specification, "Instances").
 impl<'a> Graph for Namespace<'a> {
     ghost use Rattle.std.specs.Prelude.{length};
-    ghost use Rattle.gg_shape_names.specs.Modules.{Holds, HoldsBelow, none_held};
+    ghost use Rattle.gg_shape_names.specs.Modules.{Holds};
+    ghost use Rattle.gg_shape_names.specs.inside.Modules.{HoldsBelow, none_held};
 
     ghost nodes = { λ names. length names.modules };
 

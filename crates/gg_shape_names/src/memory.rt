@@ -2,9 +2,11 @@
 ghost use Rattle.std.specs.Prelude.{◌≡◌, ◌++◌, [], ◌∷◌, List, ℕ, IfOk, OnOk};
 ghost use Rattle.gg_shape_names.specs.Along.{along};
 ghost use Rattle.gg_ast.specs.declared.statement.Field.{Field as Fields};
-ghost use Rattle.gg_shape_names.specs.Memory.{port_fields, field_of as field_written};
-ghost use Rattle.gg_shape_names.specs.Repetitions.{Tells, repeated_in, repeated_in_field, repeated_port_of};
-ghost use Rattle.gg_shape_names.specs.Tables.{HaveSame, HavePorts, IsEither, role_of_field};
+ghost use Rattle.gg_shape_names.specs.Memory.{port_fields};
+ghost use Rattle.gg_shape_names.specs.inside.Memory.{field_of as field_written};
+ghost use Rattle.gg_shape_names.specs.inside.Repetitions.{Tells};
+ghost use Rattle.gg_shape_names.specs.Repetitions.{repeated_in, repeated_in_field, repeated_port_of};
+ghost use Rattle.gg_shape_names.specs.inside.Tables.{HaveSame, HavePorts, IsEither, role_of_field};
 ghost use Rattle.gg_shape_names.specs.declared.role.PortKind.TheVariants.{Writer as AWriter};
 
 use crate::fault::{NamesFault, Repetition};

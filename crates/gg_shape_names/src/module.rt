@@ -4,9 +4,10 @@ ghost use Rattle.gg_ast.specs.Tree.{ModuleTree};
 ghost use Rattle.gg_ast.specs.declared.module.Port.{Port as APort};
 ghost use Rattle.gg_ast.specs.declared.statement.Stmt.{Stmt as AStatement};
 ghost use Rattle.gg_shape_names.specs.Along.{along};
-ghost use Rattle.gg_shape_names.specs.Repetitions.{Tells, repeated_in, repeated_in_field, repeated_port, repeated_by, repeated_by_kind, repeated_declarations};
-ghost use Rattle.gg_shape_names.specs.Tables.{TellsScope, TellsModule, names_told, HavePorts};
-ghost use Rattle.gg_shape_names.specs.Declares.{DeclaresBy, DeclaresMemory};
+ghost use Rattle.gg_shape_names.specs.inside.Repetitions.{Tells};
+ghost use Rattle.gg_shape_names.specs.Repetitions.{repeated_in, repeated_in_field, repeated_port, repeated_by, repeated_by_kind, repeated_declarations};
+ghost use Rattle.gg_shape_names.specs.inside.Tables.{TellsScope, TellsModule, names_told, HavePorts};
+ghost use Rattle.gg_shape_names.specs.inside.Declares.{DeclaresBy, DeclaresMemory};
 
 use crate::fault::{NamesFault, Repetition};
 use crate::memory::memory_ports;

@@ -1,15 +1,17 @@
 //! `Namespace`: all names of a circuit.
 ghost use Rattle.std.specs.Prelude.{◌≡◌, ◌<◌, ◌+◌, ◌^◌, ◌++◌, [], ◌∷◌, ℕ, List, IfOk, length, take};
-ghost use Rattle.gg_ast.specs.Names.{AreNamesOfCircuit};
+ghost use Rattle.gg_ast.specs.inside.Names.{AreNamesOfCircuit};
 ghost use Rattle.std.specs.List.{list_any};
 ghost use Rattle.std.specs.Str.{bytes_eq};
 ghost use Rattle.gg_ast.specs.Places.{place_of};
 ghost use Rattle.gg_ast.specs.Tree.{names_of};
 ghost use Rattle.gg_ast.specs.declared.statement.Stmt.{Stmt as Statement};
 ghost use Rattle.gg_shape_names.specs.Modules.{module_at};
-ghost use Rattle.gg_shape_names.specs.Namespace.{IsMeaningBefore, names_in, scope_of, meaning_of};
-ghost use Rattle.gg_shape_names.specs.Repetitions.{Tells, repetitions, repeated_in};
-ghost use Rattle.gg_shape_names.specs.Tables.{AreTold};
+ghost use Rattle.gg_shape_names.specs.inside.Namespace.{IsMeaningBefore, names_in};
+ghost use Rattle.gg_shape_names.specs.Namespace.{scope_of, meaning_of};
+ghost use Rattle.gg_shape_names.specs.inside.Repetitions.{Tells};
+ghost use Rattle.gg_shape_names.specs.Repetitions.{repetitions, repeated_in};
+ghost use Rattle.gg_shape_names.specs.inside.Tables.{AreTold};
 
 use crate::fault::{NamesFault, Repetition};
 use crate::find::{role_before_in, role_in};
@@ -47,7 +49,7 @@ impl<'a> Model for Namespace<'a> {
 
     ghost coded = { Prim.hlevel (codes, expression.the_row.coded) };
 
-    ghost use Rattle.gg_shape_names.specs.Tables.{AreTables};
+    ghost use Rattle.gg_shape_names.specs.inside.Tables.{AreTables};
 
     ghost view = { λ names. names.circuit.now };
 

@@ -3,7 +3,7 @@ ghost use Rattle.std.specs.Prelude.{◌≡◌, [], ◌∷◌, ◌++◌, ◌<◌,
 ghost use Rattle.std.specs.List.{list_any};
 ghost use Rattle.std.specs.Str.{bytes_eq};
 ghost use Rattle.gg_ast.specs.Places.{place_of};
-ghost use Rattle.gg_shape_names.specs.Tables.{names_told, own_role as role_told};
+ghost use Rattle.gg_shape_names.specs.inside.Tables.{names_told, own_role as role_told};
 ghost use Rattle.gg_bits.specs.Lists.{find_word};
 
 use crate::role::Role;

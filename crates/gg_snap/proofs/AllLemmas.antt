@@ -17,7 +17,7 @@ use Rattle.gg_cut_plan.specs.Plan.{HasMemory, IsBody, IsPlan}
 use Rattle.gg_cut_plan.proofs.PathLemmas.{first_place-Some}
 use Rattle.gg_cut_plan.proofs.WireLemmas.{unit_or_hub-below}
 use Rattle.gg_build.specs.plan.Built.{machine_in, nameless}
-use Rattle.gg_snap.specs.Gathered.{IsKeptBy, kept_by}
+use Rattle.gg_snap.specs.inside.Gathered.{IsKeptBy, kept_by}
 
 -- a memory belongs to a machine before the first source
 pub memory_owner-below : (tree : InstanceTree) (listed : Listed) (place : ℕ) → memory_owner tree listed place < first_source listed

@@ -18,11 +18,11 @@ use Rattle.gg_cut_plan.specs.Plan.{IsBody}
 use Rattle.gg_cut_reference.specs.Made.{plan_reference}
 use Rattle.gg_cut_reference.proofs.PlanLemmas.{plan-made}
 use Rattle.gg_build.specs.declared.begin.Begin.{Begin}
-use Rattle.gg_build.specs.Begin.{AreTokens}
+use Rattle.gg_build.specs.inside.Begin.{AreTokens}
 use Rattle.gg_build.specs.plan.Built.{nameless}
-use Rattle.gg_build.specs.Build.{Begins, HasBridges, IsToBegin}
-use Rattle.gg_snap.specs.Gathered.{pipe_number}
-use Rattle.gg_snap.specs.Whole.{CanBegin}
+use Rattle.gg_build.specs.inside.Build.{Begins, HasBridges, IsToBegin}
+use Rattle.gg_snap.specs.inside.Gathered.{pipe_number}
+use Rattle.gg_snap.specs.inside.Whole.{CanBegin}
 use Rattle.gg_snap.proofs.AloneLemmas.{no-bridge, run-alone}
 use Rattle.gg_snap.proofs.PlannedLemmas.{known-signals, token-is}
 

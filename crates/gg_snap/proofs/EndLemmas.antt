@@ -14,7 +14,7 @@ use Rattle.gg_net.specs.Kept.{Kept, list_at}
 use Rattle.gg_net.proofs.MayLemmas.{consumer-there}
 use Rattle.gg_net.specs.Network.{AllStandAt}
 use Rattle.gg_measure.proofs.DoneLemmas.{all-drained}
-use Rattle.gg_snap.specs.Gathered.{newest}
+use Rattle.gg_snap.specs.inside.Gathered.{newest}
 
 -- each access has a first field
 some-field : (access : Access) → 0 < length (fields_of access)

@@ -13,7 +13,7 @@ use Rattle.gg_net.specs.Kept.{Kept}
 use Rattle.gg_net.specs.Network.{Network}
 use Rattle.gg_build.proofs.PlanLemmas.LinkLemmas.{length-from}
 use Rattle.gg_build.specs.Build.{run_token}
-use Rattle.gg_snap.specs.Gathered.{AreApart, AreIn, IsAll}
+use Rattle.gg_snap.specs.inside.Gathered.{AreApart, AreIn, IsAll}
 use Rattle.gg_snap.specs.Whole.{HasEnded, last_state}
 use Rattle.gg_snap.proofs.AloneLemmas.{run-alone}
 use Rattle.gg_snap.proofs.PlannedLemmas.{channels-apart, known-signals}

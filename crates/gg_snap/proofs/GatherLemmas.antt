@@ -13,9 +13,9 @@ use Rattle.gg_cut_plan.specs.declared.plan.Plan.{Plan}
 use Rattle.gg_node.specs.Machine.{Machine}
 use Rattle.gg_net.specs.Network.{Network}
 use Rattle.gg_build.specs.plan.Built.{machine_in, nameless}
-use Rattle.gg_snap.specs.text.Parts.{HasPart, HasSizeOf}
+use Rattle.gg_snap.specs.inside.Parts.{HasPart, HasSizeOf}
 use Rattle.gg_snap.proofs.TextLemmas.PartLemmas.{no_bank}
-use Rattle.gg_snap.specs.Gathered.{AreDone, ArePipes, HoldsBody, IsAll, IsSized, held_by, kept_by, newest_tokens}
+use Rattle.gg_snap.specs.inside.Gathered.{AreDone, ArePipes, HoldsBody, IsAll, IsSized, held_by, kept_by, newest_tokens}
 use Rattle.gg_snap.proofs.PipeLemmas.{one-list}
 
 -- ---- machine by machine

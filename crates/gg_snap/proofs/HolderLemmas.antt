@@ -43,7 +43,7 @@ use Rattle.gg_cut_routes.proofs.RouteLemmas.{IsBase, apart-at, same-wire}
 use Rattle.gg_cut_routes.proofs.RoutedLemmas.{plan-routed, routed-base}
 use Rattle.gg_build.specs.plan.Built.{machine_in, nameless}
 use Rattle.gg_build.proofs.PlanLemmas.MemoryPartLemmas.{IsMemoryPart, memory-part}
-use Rattle.gg_snap.specs.Gathered.{IsHeldBy, held_by}
+use Rattle.gg_snap.specs.inside.Gathered.{IsHeldBy, held_by}
 
 -- ---- a signal that is no copy
 

@@ -10,7 +10,7 @@ use Rattle.gg_flat.specs.Line.{value_at}
 use Rattle.gg_flat.proofs.ListLemmas.{numbers-up}
 use Rattle.gg_cut_plan.specs.Listed.{first_place}
 use Rattle.gg_cut_split.proofs.ClosedLemmas.PlaceLemmas.{place-is}
-use Rattle.gg_snap.specs.Gathered.{number_below}
+use Rattle.gg_snap.specs.inside.Gathered.{number_below}
 
 pub filter-same : {A : Type 0} (f g : A → Bool) → ((x : A) → f x ≡ g x) → (xs : List A) → filter f xs ≡ filter g xs
 filter-same f g same [] = refl

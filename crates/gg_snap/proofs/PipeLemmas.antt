@@ -10,8 +10,8 @@ use Rattle.std.proofs.lemmas.Grind.{same_number_lists}
 use Rattle.gg_flat.specs.Line.{value_at}
 use Rattle.gg_cut_plan.specs.declared.plan.Channel.{Channel}
 use Rattle.gg_cut_plan.proofs.OriginLemmas.{any-finds}
-use Rattle.gg_build.specs.Begin.{AreTokens}
-use Rattle.gg_snap.specs.Gathered.{AreApart, ArePipes, HaveNumbers, is_piped_by, pipe_number}
+use Rattle.gg_build.specs.inside.Begin.{AreTokens}
+use Rattle.gg_snap.specs.inside.Gathered.{AreApart, ArePipes, HaveNumbers, is_piped_by, pipe_number}
 use Rattle.gg_snap.proofs.NumberLemmas.{below-less, chosen-is}
 
 abbrev test : ℕ → Channel → Bool

@@ -29,7 +29,7 @@ use Rattle.gg_cut_routes.proofs.RouteLemmas.{IsBase, routes-known, routes-once}
 use Rattle.gg_cut_routes.proofs.RoutedLemmas.{routed-base}
 use Rattle.gg_cut_reference.specs.Follows.{plan_token, token_or}
 use Rattle.gg_cut_reference.specs.Links.{is_carried, pipes_of}
-use Rattle.gg_snap.specs.Gathered.{AreApart, is_piped_by, pipe_number}
+use Rattle.gg_snap.specs.inside.Gathered.{AreApart, is_piped_by, pipe_number}
 use Rattle.gg_snap.proofs.NumberLemmas.{below-less, chosen, chosen-at, chosen-place, filter-same}
 use Rattle.gg_snap.proofs.PipeLemmas.{channel-of, piped-at}
 

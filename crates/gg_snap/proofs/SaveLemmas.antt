@@ -8,9 +8,10 @@ use Rattle.gg_flat.specs.declared.piece.Driver.TheVariants.{Input, Held, MemoryW
 use Rattle.gg_flat.specs.Circuit.{FlatCircuit, driver_at}
 use Rattle.gg_flat_tree.specs.Tree.{InstanceTree, IsTree, memory_at, path_at}
 use Rattle.gg_flat.specs.WellFormed.{IsWellFormed, MayDrive}
-use Rattle.gg_front.specs.Paths.{HavePaths, IsPath, IsSignalPath, is_path_byte, is_signal_byte}
+use Rattle.gg_front.specs.inside.Paths.{HavePaths, IsPath, IsSignalPath, is_path_byte, is_signal_byte}
 use Rattle.gg_cut_plan.specs.Held.{AreHeldOnce}
-use Rattle.gg_cut_reference.specs.Reference.{IsReference, Views}
+use Rattle.gg_cut_reference.specs.inside.Reference.{IsReference}
+use Rattle.gg_cut_reference.specs.Reference.{Views}
 use Rattle.gg_snap.specs.text.Known.{CanSave, IsPlain}
 use Rattle.gg_snap.proofs.TextLemmas.FeedLemmas.{free-no, no-append, no-nil}
 use Rattle.gg_snap.proofs.TextLemmas.SaveLemmas.{plain-path, tree-memories}

@@ -15,10 +15,11 @@ use Rattle.gg_flat.specs.Streams.{Flow}
 use Rattle.gg_order.proofs.RunsLemmas.AlongLemmas.{IsState-at}
 use Rattle.gg_cut_plan.specs.declared.plan.Plan.{Plan}
 use Rattle.gg_cut_reference.specs.Made.{IsFresh, plan_reference}
-use Rattle.gg_cut_reference.specs.Reference.{IsReference, Views}
+use Rattle.gg_cut_reference.specs.inside.Reference.{IsReference}
+use Rattle.gg_cut_reference.specs.Reference.{Views}
 use Rattle.gg_cut_reference.proofs.PlanLemmas.{plan-formed, plan-made}
 use Rattle.gg_build.specs.Build.{IsToRunFrom}
-use Rattle.gg_snap.specs.text.Parts.{HasSizeOf}
+use Rattle.gg_snap.specs.inside.Parts.{HasSizeOf}
 use Rattle.gg_snap.proofs.TextLemmas.PartLemmas.{no_bank}
 use Rattle.gg_snap.specs.Whole.{last_state}
 use Rattle.gg_snap.proofs.AloneLemmas.{run-alone}

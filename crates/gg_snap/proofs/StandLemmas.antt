@@ -26,7 +26,7 @@ use Rattle.gg_cut_plan.specs.Plan.{IsBody, IsCutPart}
 use Rattle.gg_cut_split.proofs.ClosedLemmas.FaultlessLemmas.{faultless-apart, faultless-few}
 use Rattle.gg_cut_routes.proofs.RoutedLemmas.{plan-routed}
 use Rattle.gg_cut_reference.specs.Made.{IsFresh, plan_reference, plan_seen}
-use Rattle.gg_cut_reference.specs.Reference.{with_paths}
+use Rattle.gg_cut_reference.specs.inside.Reference.{with_paths}
 use Rattle.gg_cut_reference.proofs.PlanLemmas.{plan-part}
 use Rattle.gg_cut_reference.proofs.ReferenceLemmas.{drop-part, state-paths}
 use Rattle.gg_node.specs.Machine.{Machine, RunsPiece, machine_at, no_state}
@@ -43,8 +43,8 @@ use Rattle.gg_build.proofs.PlanLemmas.SeenLemmas.{seen-typed}
 use Rattle.gg_build.proofs.PlanLemmas.ShownLemmas.{rows-twice, seen-twice}
 use Rattle.gg_build.proofs.PlanLemmas.StateLemmas.{ratios-again}
 use Rattle.gg_build.specs.StandsAt.{StandsAt}
-use Rattle.gg_snap.specs.text.Parts.{IsPartState}
-use Rattle.gg_snap.specs.Gathered.{AreIn, HoldsBody}
+use Rattle.gg_snap.specs.inside.Parts.{IsPartState}
+use Rattle.gg_snap.specs.inside.Gathered.{AreIn, HoldsBody}
 use Rattle.gg_snap.specs.Whole.{last_state}
 use Rattle.gg_snap.proofs.AloneLemmas.{no-bridge, run-alone}
 use Rattle.gg_snap.proofs.EndLemmas.{none-served}

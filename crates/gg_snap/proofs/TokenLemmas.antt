@@ -17,7 +17,7 @@ use Rattle.gg_cut_plan.specs.Solves.{AreRows, stream}
 use Rattle.gg_cut_reference.specs.Follows.{plan_token}
 use Rattle.gg_cut_reference.specs.Links.{pipes_of}
 use Rattle.gg_cut_reference.specs.Made.{AllHeld, IsFresh, plan_reference}
-use Rattle.gg_cut_reference.specs.Reference.{IsPipeRegister}
+use Rattle.gg_cut_reference.specs.inside.Reference.{IsPipeRegister}
 use Rattle.gg_cut_reference.proofs.PipeLemmas.{IsPipe, after, shifted-here, shifted-high}
 use Rattle.gg_cut_reference.proofs.PlanLemmas.{plan-made}
 use Rattle.gg_net.specs.declared.shape.Wire.{Wire}
@@ -29,7 +29,7 @@ use Rattle.gg_build.proofs.PlanLemmas.LinkLemmas.{length-from, wire-from}
 use Rattle.gg_build.proofs.PlanLemmas.SolvedLemmas.{stream-at}
 use Rattle.gg_build.specs.Build.{IsToRunFrom, run_token}
 use Rattle.gg_build.specs.StandsAt.{StandsAt}
-use Rattle.gg_snap.specs.Gathered.{ArePipes, IsAll, newest, newest_tokens, pipe_number}
+use Rattle.gg_snap.specs.inside.Gathered.{ArePipes, IsAll, newest, newest_tokens, pipe_number}
 use Rattle.gg_snap.specs.Whole.{last_state}
 use Rattle.gg_snap.proofs.AloneLemmas.{run-alone}
 use Rattle.gg_snap.proofs.EndLemmas.{last-token}

@@ -14,8 +14,9 @@ use Rattle.gg_cut_split.proofs.ClosedLemmas.FaultlessLemmas.{faultless-apart}
 use Rattle.gg_cut_routes.proofs.RoutedLemmas.{routed-base}
 use Rattle.gg_cut_reference.specs.Made.{AllHeld, holder_of, keeper_of, plan_reference}
 use Rattle.gg_cut_reference.proofs.WholeReference.{made}
-use Rattle.gg_cut_reference.specs.Reference.{IsReference, Views}
-use Rattle.gg_snap.specs.text.Whole.{HasHolder, IsWhole}
+use Rattle.gg_cut_reference.specs.inside.Reference.{IsReference}
+use Rattle.gg_cut_reference.specs.Reference.{Views}
+use Rattle.gg_snap.specs.inside.TextWhole.{HasHolder, IsWhole}
 use Rattle.gg_flat.specs.Renaming.{renamed_driver, signals_by}
 
 module _ (one all : FlatCircuit) (views : Views) (pipes : List ℕ) (reference : IsReference one all views pipes) (tree : InstanceTree) (keeps : KeepsToTree one tree) (held : AllHeld one) where

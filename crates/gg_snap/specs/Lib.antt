@@ -1,4 +1,3 @@
-pub mod Gathered
 pub mod Whole
-pub mod StatesHeld
 pub mod text
+pub mod inside

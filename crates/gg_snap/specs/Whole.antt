@@ -22,11 +22,3 @@ pub record HasEnded (plan : Plan) (design : Ordered) (start : Start) (columns : 
   pub of_design : run.design ≡ design
   pub alone : run.request.bridges ≡ []
   pub stands : StandsAt plan start (run_token run) columns n n net
-
--- The network of a plan of a design can be run from this cycle and this state. The plan has no bridges.
-pub record CanBegin (plan : Plan) (design : Ordered) (cycle : ℕ) (state : State) (start : Start) (columns : List (List ℕ)) (n : ℕ) (flow : Flow) : Type 0 where
-  pub run : IsToRunFrom plan start columns n flow
-  pub of_design : run.design ≡ design
-  pub alone : run.request.bridges ≡ []
-  pub at_cycle : start.cycle ≡ cycle
-  pub in_state : start.state ≡ state

@@ -1,12 +1,5 @@
 pub mod Lines
 pub mod Table
 pub mod Known
-pub mod Draft
-pub mod Parts
-pub mod Places
 pub mod Standing
-pub mod Heading
 pub mod FaultText
-pub mod Snap
-pub mod Whole
-pub mod OneSnap

@@ -5,9 +5,9 @@ ghost use Rattle.gg_flat.specs.State.{State, opening};
 ghost use Rattle.gg_cut_plan.specs.declared.plan.Plan.{Plan};
 ghost use Rattle.gg_node.specs.Machine.{machine_at};
 ghost use Rattle.gg_net.specs.Network.{queue_at};
-ghost use Rattle.gg_build.specs.Node.{machines_of};
-ghost use Rattle.gg_snap.specs.text.Parts.{HasPart, HasSizeOf};
-ghost use Rattle.gg_snap.specs.Gathered.{AreApart, AreDone, AreIn, HoldsBody, HoldsPart, IsAll, IsRunning, IsSized, held_by, kept_by, newest, newest_tokens};
+ghost use Rattle.gg_build.specs.inside.Node.{machines_of};
+ghost use Rattle.gg_snap.specs.inside.Parts.{HasPart, HasSizeOf};
+ghost use Rattle.gg_snap.specs.inside.Gathered.{AreApart, AreDone, AreIn, HoldsBody, HoldsPart, IsAll, IsRunning, IsSized, held_by, kept_by, newest, newest_tokens};
 
 use crate::pipes::pipes_of;
 use crate::text::Draft;

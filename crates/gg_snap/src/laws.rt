@@ -1,5 +1,5 @@
 //! Laws: facts about snapshots. Each is the contract of a function with an empty body.
-ghost use Rattle.gg_snap.specs.StatesHeld.{MachinesAreInTheState, MemoriesAreKept, PlansAreWhole, PlansCanSave, RegistersAreHeld, TheWholeStateIsThere};
+ghost use Rattle.gg_snap.specs.inside.StatesHeld.{MachinesAreInTheState, MemoriesAreKept, PlansAreWhole, PlansCanSave, RegistersAreHeld, TheWholeStateIsThere};
 
 /// A state of the circuit that a plan's network computes can be saved.
 pub fn plans_can_save()

@@ -4,8 +4,8 @@ ghost use Rattle.std.specs.List.{range_with_len};
 ghost use Rattle.gg_flat.specs.Line.{value_at};
 ghost use Rattle.gg_order.specs.Marks.{is_marked};
 ghost use Rattle.gg_cut_plan.specs.declared.plan.Channel.{Channel};
-ghost use Rattle.gg_build.specs.Begin.{AreTokens};
-ghost use Rattle.gg_snap.specs.Gathered.{ArePipes, AreApart, HaveNumbers, is_piped_by, number_below, pipe_number};
+ghost use Rattle.gg_build.specs.inside.Begin.{AreTokens};
+ghost use Rattle.gg_snap.specs.inside.Gathered.{ArePipes, AreApart, HaveNumbers, is_piped_by, number_below, pipe_number};
 
 use gg_cut_plan::{Channel, unmarked};
 use std::alloc::{AllocError, Global};

@@ -2,8 +2,9 @@
 ghost use Rattle.std.specs.Prelude.{◌≡◌, ℕ, List, IfOk};
 ghost use Rattle.gg_flat.specs.Run.{Start};
 ghost use Rattle.gg_cut_reference.specs.Made.{AllHeld, IsFresh, plan_reference};
-ghost use Rattle.gg_snap.specs.Whole.{CanBegin, HasEnded, last_state};
-ghost use Rattle.gg_snap.specs.StatesHeld.{BeginsIn};
+ghost use Rattle.gg_snap.specs.inside.Whole.{CanBegin};
+ghost use Rattle.gg_snap.specs.Whole.{HasEnded, last_state};
+ghost use Rattle.gg_snap.specs.inside.StatesHeld.{BeginsIn};
 
 use crate::gathering::gather;
 use crate::pipes::tokens_of;

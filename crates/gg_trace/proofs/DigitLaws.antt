@@ -2,7 +2,8 @@
 use Rattle.std.proofs.Common.{◌≡◌, ℕ, ◌+◌, ◌*◌, ◌^◌, ◌<◌, ◌≤◌, List, [], ◌∷◌, length, Option, None, Some, MatchOption, refl, ap, ◌∙◌, arith}
 use Rattle.std.specs.Char.{digit_value}
 use Rattle.std.specs.Str.Parse.{AllDigits, digits_value, digits_value_after}
-use Rattle.gg_trace.specs.Cells.{IsHexadecimal, hexadecimal, AppendsDigit}
+use Rattle.gg_trace.specs.Cells.{IsHexadecimal, hexadecimal}
+use Rattle.gg_trace.specs.inside.Cells.{AppendsDigit}
 
 -- `rest` is what is left of the field; `value` is the number read so far, or none if the field's number doesn't fit 128 bits
 pub record ReadsDigits (field rest : List ℕ) (value : Option ℕ) : Type 0 where

@@ -6,7 +6,7 @@ use Rattle.gg_trace.proofs.ListLaws.{next_item}
 use Rattle.gg_flat.specs.declared.ports.Port.{Port}
 use Rattle.gg_trace.specs.Ports.{name_at, IsNamed, HasDistinctNames}
 use Rattle.gg_trace.specs.Header.{field, MayStand, IsListed, HasHeaderFault}
-use Rattle.gg_trace.specs.Places.{IsPlace, IsHeading}
+use Rattle.gg_trace.specs.inside.Places.{IsPlace, IsHeading}
 
 -- the header begins with `cycle` and the names of the ports at these places, and rest is left; the marks show the named ports
 pub record ReadsNames (ports : List Port) (header rest : List (List ℕ)) (places : List ℕ) (marks : List Bool) : Type 0 where

@@ -5,7 +5,7 @@ use Rattle.std.proofs.lemmas.Bool.{cases_eq}
 use Rattle.std.proofs.lemmas.Bool.Decides.{nat_tests}
 use Rattle.std.proofs.lemmas.List.{take_at, get_or_append_left}
 use Rattle.gg_trace.specs.Fields.{text_lines}
-use Rattle.gg_trace.specs.Lined.{HasNoFeed, EndsInReturn, IsLineEnd, IsEnded, AreLines}
+use Rattle.gg_trace.specs.inside.Lined.{HasNoFeed, EndsInReturn, IsLineEnd, IsEnded, AreLines}
 use Rattle.gg_trace.proofs.LineLaws.{text_lines-nil, text_lines-last, text_lines-first}
 
 -- the byte after a front part

@@ -11,8 +11,9 @@ use Rattle.std.proofs.lemmas.Slice.Eq.{bytes_eq-Decides}
 use Rattle.std.proofs.lemmas.Bool.{false≢true}
 use borrow.Author.Count.{below_more}
 use Rattle.gg_flat.specs.declared.ports.Port.{Port}
-use Rattle.gg_trace.specs.Ports.{name_at, IsNamed, NamesNone}
-use Rattle.gg_trace.specs.Places.{TellsPorts}
+use Rattle.gg_trace.specs.Ports.{name_at, IsNamed}
+use Rattle.gg_trace.specs.inside.Ports.{NamesNone}
+use Rattle.gg_trace.specs.inside.Places.{TellsPorts}
 
 -- what a look-up by name answers if the table holds the first n ports
 abbrev pub Tells : List Port → ℕ → List ℕ → Option ℕ → Type 0

@@ -2,7 +2,7 @@
 use Rattle.std.proofs.Common.{◌≡◌, ℕ, ◌+◌, ◌<◌, zero, suc, Bool, true, false, List, [], ◌∷◌, ◌++◌, length, get_or, drop, refl, sym, ap, ◌∙◌, subst, arith, length-append}
 use Rattle.std.proofs.lemmas.List.{take_all, take_at, drop_at, get_or_append_left, get_or-append-add}
 use Rattle.gg_trace.specs.Fields.{is_blank, fields, fields_of_text}
-use Rattle.gg_trace.specs.Parted.{HasNoBlank, IsGap, IsCut, IsParted, AreFields}
+use Rattle.gg_trace.specs.inside.Parted.{HasNoBlank, IsGap, IsCut, IsParted, AreFields}
 use Rattle.gg_trace.proofs.FieldLaws.{fields_of_text-last, fields_of_text-first}
 
 -- a text that is cut into a first field and a rest has this first field

@@ -9,7 +9,7 @@ use Rattle.gg_trace.specs.declared.faults.TraceFault.TheVariants.{Heading, RowNu
 use Rattle.gg_trace.specs.Cells.{IsCell, IsHexadecimal, hexadecimal}
 use Rattle.gg_trace.specs.Ports.{width_at}
 use Rattle.gg_trace.specs.Header.{field}
-use Rattle.gg_trace.specs.Places.{ArePlaces, AreCells, AreValues, StopsAt, HasValueFault, HasValuesFault, PassesCycle, ReadsRow, HasRowFault}
+use Rattle.gg_trace.specs.inside.Places.{ArePlaces, AreCells, AreValues, StopsAt, HasValueFault, HasValuesFault, PassesCycle, ReadsRow, HasRowFault}
 use Rattle.gg_trace.proofs.ListLaws.{next_item}
 
 -- the first `at` cells were read, and rest is left

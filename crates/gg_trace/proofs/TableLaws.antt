@@ -4,7 +4,8 @@ use Rattle.std.specs.List.{range_with_len}
 use Rattle.std.proofs.lemmas.List.{get_or-map, get_or-take, get_or-drop, get_or_default, same_lists, length-map, length-take-le}
 use Rattle.std.proofs.lemmas.List.FromFn.{get_or-map-range_with_len, length-map-range_with_len, map-range_with_len_more, take-map-range_with_len}
 use Rattle.std.proofs.lemmas.Nat.{mul-add-lt}
-use Rattle.gg_trace.specs.Table.{table_of, row_of}
+use Rattle.gg_trace.specs.inside.Table.{table_of}
+use Rattle.gg_trace.specs.Table.{row_of}
 
 -- what column i of a table holds
 abbrev pub column_in : ℕ → ℕ → List ℕ → ℕ → List ℕ

@@ -10,8 +10,8 @@ use Rattle.gg_trace.specs.Cells.{IsHexadecimal, hexadecimal, IsCell}
 use Rattle.gg_trace.specs.Fields.{fields}
 use Rattle.gg_trace.specs.Ports.{IsNamed, HasDistinctNames, width_at}
 use Rattle.gg_trace.specs.Header.{field}
-use Rattle.gg_trace.specs.Places.{IsHeading, AreCells, PassesCycle, ReadsRow, HasRowFault}
-use Rattle.gg_trace.specs.Table.{table_of}
+use Rattle.gg_trace.specs.inside.Places.{IsHeading, AreCells, PassesCycle, ReadsRow, HasRowFault}
+use Rattle.gg_trace.specs.inside.Table.{table_of}
 use Rattle.gg_trace.specs.Trace.{header_of, rows_of, row_at, IsValueField, IsRow, Columns, HasValueAt, ReachesRow, ReachesValue, IfFirstFault}
 use Rattle.gg_trace.proofs.ListLaws.{next_item}
 use Rattle.gg_trace.proofs.HeaderLaws.{one_port}

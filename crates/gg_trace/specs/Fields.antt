@@ -1,6 +1,6 @@
 -- The fields of one line of a trace.
 -- Source: this program's own form; docs/FORMATS.md describes it.
-use Rattle.std.specs.Prelude.{ℕ, Bool, ◌||◌, ◌==◌, List, [], ◌∷◌, Option, None, Some}
+use Rattle.std.specs.Prelude.{ℕ, Bool, ◌||◌, ◌==◌, List, [], ◌∷◌}
 use Rattle.std.specs.List.{slice_split}
 use Rattle.std.specs.Str.Lines.{lines}
 
@@ -30,11 +30,6 @@ fields_of_text text = fields_of_parts (slice_split is_blank text)
 unfoldable pub fields : List ℕ → List (List ℕ)
 fields [] = []
 fields (b ∷ line) = fields_of_text (b ∷ line)
-
--- the fields of what is left of a line; none if nothing is left
-abbrev pub fields_left : Option (List ℕ) → List (List ℕ)
-fields_left None = []
-fields_left (Some text) = fields_of_text text
 
 -- The lines of a text: each ends with LF or CR LF, and the last line end is optional (as with Rust's `str::lines`).
 unfoldable pub text_lines : List ℕ → List (List ℕ)

@@ -2,11 +2,9 @@ pub mod Fields
 pub mod Cells
 pub mod Ports
 pub mod Header
-pub mod Places
 pub mod Table
 pub mod Trace
 pub mod Printing
-pub mod Parted
-pub mod Lined
 pub mod FaultText
 pub mod Last
+pub mod inside

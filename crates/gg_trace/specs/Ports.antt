@@ -1,5 +1,5 @@
 -- Ports as lists of names and of widths.
-use Rattle.std.specs.Prelude.{◌≡◌, ◌≢◌, ℕ, ◌<◌, List, [], length, map, slice_index_or, slice_index}
+use Rattle.std.specs.Prelude.{◌≡◌, ℕ, ◌<◌, List, [], length, map, slice_index_or, slice_index}
 use Rattle.gg_flat.specs.declared.ports.Port.{Port}
 
 -- the names, in port order
@@ -22,10 +22,6 @@ width_at ports i = slice_index (widths ports) i
 pub record IsNamed (ports : List Port) (name : List ℕ) (i : ℕ) : Type 0 where
   pub within : i < length ports
   pub is : name_at ports i ≡ name
-
--- no port has this name
-abbrev pub NamesNone : List Port → List ℕ → Type 0
-NamesNone ports name = (i : ℕ) → i < length ports → name_at ports i ≢ name
 
 -- no two ports have the same name
 abbrev pub HasDistinctNames : List Port → Type 0

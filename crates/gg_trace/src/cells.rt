@@ -1,7 +1,8 @@
 //! The value that a field gives: hexadecimal digits that fit a width.
 
 ghost use Rattle.std.specs.Prelude.{◌≡◌, ℕ, ◌+◌, ◌*◌, ◌^◌, ◌<◌, ◌≤◌, ◌↔◌, IsTrue, MatchOption, MatchResult};
-ghost use Rattle.gg_trace.specs.Cells.{IsCell, AppendsDigit, IsHexadecimal, HasCellFault, hexadecimal};
+ghost use Rattle.gg_trace.specs.Cells.{IsCell, IsHexadecimal, hexadecimal};
+ghost use Rattle.gg_trace.specs.inside.Cells.{AppendsDigit, HasCellFault};
 
 // What is wrong with the field of a value.
 #[derive(Clone, Copy, Debug, Drop, PartialEq, Eq)]

@@ -2,8 +2,9 @@
 
 ghost use Rattle.std.specs.Prelude.{◌≡◌, ℕ, List, ◌∷◌, [], ◌<◌, ◌≤◌, MatchOption, not, length, slice_index};
 ghost use Rattle.std.specs.Option.{option_copied};
-ghost use Rattle.gg_trace.specs.Parted.{AreFields};
-ghost use Rattle.gg_trace.specs.Fields.{is_blank, fields, fields_of_text, fields_left};
+ghost use Rattle.gg_trace.specs.inside.Parted.{AreFields};
+ghost use Rattle.gg_trace.specs.Fields.{is_blank, fields, fields_of_text};
+ghost use Rattle.gg_trace.specs.inside.Fields.{fields_left};
 
 use std::marker::Model;
 
@@ -20,7 +21,7 @@ impl<'a> Model for Fields<'a> {
 
     ghost Value = { List (List ℕ) };
 
-    ghost use Rattle.gg_trace.specs.Fields.{fields_left};
+    ghost use Rattle.gg_trace.specs.inside.Fields.{fields_left};
 
     ghost view = { λ a. fields_left (option_copied a.rest) };
 }

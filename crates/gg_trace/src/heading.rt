@@ -3,8 +3,9 @@
 ghost use Rattle.std.specs.Prelude.{◌≡◌, ◌≢◌, ℕ, ◌+◌, ◌<◌, ◌∷◌, ◌++◌, [], false, true, IfOk, IsOk, MatchOption, MatchResult, codes, length, slice_index, slice_index_or, slice_set, vec_len};
 ghost use Rattle.std.specs.Bool.{OnTrue, OnFalse};
 ghost use Rattle.gg_trace.specs.Fields.{fields};
-ghost use Rattle.gg_trace.specs.Ports.{IsNamed, NamesNone, HasDistinctNames};
-ghost use Rattle.gg_trace.specs.Places.{IsHeading, IfHeaderFault, TakesName};
+ghost use Rattle.gg_trace.specs.Ports.{IsNamed, HasDistinctNames};
+ghost use Rattle.gg_trace.specs.inside.Ports.{NamesNone};
+ghost use Rattle.gg_trace.specs.inside.Places.{IsHeading, IfHeaderFault, TakesName};
 
 use crate::faults::TraceFault;
 use crate::field_cuts::Fields;

@@ -3,7 +3,7 @@
 ghost use Rattle.std.specs.Prelude.{◌≡◌, ℕ, List, ◌∷◌, [], ◌<◌, ◌≤◌, ◌≢◌, MatchOption, length, slice_index};
 ghost use Rattle.std.specs.Str.Lines.{strip_carriage_return};
 ghost use Rattle.gg_trace.specs.Fields.{text_lines};
-ghost use Rattle.gg_trace.specs.Lined.{AreLines};
+ghost use Rattle.gg_trace.specs.inside.Lined.{AreLines};
 
 use std::marker::Model;
 

@@ -1,8 +1,9 @@
 //! The places of ports by their names.
 
 ghost use Rattle.std.specs.Prelude.{◌≡◌, length, MatchOption, IfOk};
-ghost use Rattle.gg_trace.specs.Ports.{IsNamed, NamesNone};
-ghost use Rattle.gg_trace.specs.Places.{TellsPorts};
+ghost use Rattle.gg_trace.specs.Ports.{IsNamed};
+ghost use Rattle.gg_trace.specs.inside.Ports.{NamesNone};
+ghost use Rattle.gg_trace.specs.inside.Places.{TellsPorts};
 
 use gg_flat::Port;
 use std::alloc::{AllocError, Global};
@@ -25,7 +26,7 @@ impl Drop for PortTable<'_> {
 impl<'a> Model for PortTable<'a> {
     ghost use Rattle.std.specs.Prelude.{List, length};
     ghost use Rattle.gg_flat.specs.declared.ports.Port.{Port as PortValue};
-    ghost use Rattle.gg_trace.specs.Places.{TellsPorts};
+    ghost use Rattle.gg_trace.specs.inside.Places.{TellsPorts};
 
     ghost Value = { List PortValue };
 

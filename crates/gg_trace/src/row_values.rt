@@ -5,7 +5,7 @@ ghost use Rattle.std.specs.Bool.{OnTrue, OnFalse};
 ghost use Rattle.gg_trace.specs.Fields.{fields};
 ghost use Rattle.gg_trace.specs.Cells.{IsCell, hexadecimal};
 ghost use Rattle.gg_trace.specs.Header.{field};
-ghost use Rattle.gg_trace.specs.Places.{ArePlaces, AreCells, AreValues, HasValueFault, HasValuesFault, ReadsRow, HasRowFault};
+ghost use Rattle.gg_trace.specs.inside.Places.{ArePlaces, AreCells, AreValues, HasValueFault, HasValuesFault, ReadsRow, HasRowFault};
 
 use crate::cells::{CellFault, value_of};
 use crate::faults::TraceFault;

@@ -3,7 +3,8 @@
 ghost use Rattle.std.specs.Prelude.{◌≡◌, ℕ, ◌+◌, ◌*◌, ◌<◌, ◌≤◌, [], IfOk, map, take, length, slice_index, slice_index_or};
 ghost use Rattle.std.specs.List.{range_with_len};
 ghost use Rattle.gg_bits.specs.Limits.{cycle_limit};
-ghost use Rattle.gg_trace.specs.Table.{row_of, table_of};
+ghost use Rattle.gg_trace.specs.Table.{row_of};
+ghost use Rattle.gg_trace.specs.inside.Table.{table_of};
 
 use std::alloc::{AllocError, Global};
 use std::marker::Model;
@@ -31,7 +32,7 @@ impl Drop for Trace {
 impl Model for Trace {
     ghost use Rattle.std.specs.Prelude.{◌≡◌, ◌*◌, ◌≤◌, length};
     ghost use Rattle.gg_bits.specs.Limits.{cycle_limit};
-    ghost use Rattle.gg_trace.specs.Table.{Table, table_of};
+    ghost use Rattle.gg_trace.specs.inside.Table.{Table, table_of};
 
     ghost Value = { Table };
 

@@ -10,9 +10,9 @@ use Rattle.gg_ast.specs.declared.statement.Stmt.{Stmt}
 use Rattle.gg_types.specs.declared.way.Way.{Way}
 use Rattle.gg_types.specs.declared.way.Way.TheVariants.{FromOutside, FromDriver, Nowhere}
 use Rattle.gg_types.specs.Clocks.{is_followed, is_outside, driven_by, led_on, lead_from, lead_of, next_of, stay_or, followed, leads}
-use Rattle.gg_types.specs.Named.{flag_at}
+use Rattle.gg_types.specs.inside.Named.{flag_at}
 use Rattle.gg_bits.specs.Lists.{find_word}
-use Rattle.gg_types.specs.Places.{ArePlaces, TellsNext, Reaches, place_in, next_at, next_place, set_next, with_driven, iterate, way_at}
+use Rattle.gg_types.specs.inside.Places.{ArePlaces, TellsNext, Reaches, place_in, next_at, next_place, set_next, with_driven, iterate, way_at}
 use Rattle.gg_types.proofs.PlaceLemmas.{same_bytes, place-within, place-same, way-placed, placed-way}
 
 if_same : {A : Type 0} (b : Bool) (x : A) → (if b then x else x) ≡ x

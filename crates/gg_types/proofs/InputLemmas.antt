@@ -9,10 +9,11 @@ use Rattle.gg_ast.specs.declared.module.Direction.TheVariants as directions
 use Rattle.gg_ast.specs.declared.module.Port.{Port}
 use Rattle.gg_ast.specs.declared.statement.Stmt.{Stmt}
 use Rattle.gg_types.specs.declared.way.Way.{Way}
-use Rattle.gg_types.specs.Clocks.{clock_from, clock_inputs, clock_named, clock_number, clock_numbers, counted_clock, followed, is_clock_input, is_followed, port_way, way_of_port}
-use Rattle.gg_types.specs.Named.{number_at}
+use Rattle.gg_types.specs.Clocks.{clock_from, clock_inputs, clock_named, clock_number, counted_clock, followed, is_clock_input, is_followed, port_way, way_of_port}
+use Rattle.gg_types.specs.inside.Clocks.{clock_numbers}
+use Rattle.gg_types.specs.inside.Named.{number_at}
 use Rattle.gg_bits.specs.Lists.{find_word}
-use Rattle.gg_types.specs.Places.{TellsNext, Reaches, place_in}
+use Rattle.gg_types.specs.inside.Places.{TellsNext, Reaches, place_in}
 use Rattle.gg_types.proofs.ClockLemmas.{IsSaid, reached-told, undeclared-told}
 
 -- ---- numbers of ports

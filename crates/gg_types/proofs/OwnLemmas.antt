@@ -4,7 +4,7 @@ use Rattle.std.specs.Option.{option_map}
 use Rattle.std.specs.Str.{bytes_eq}
 use Rattle.gg_ast.specs.Places.{place_of}
 use Rattle.gg_types.specs.declared.sort.Own.{Own}
-use Rattle.gg_types.specs.Named.{owned}
+use Rattle.gg_types.specs.inside.Named.{owned}
 use Rattle.gg_bits.specs.Lists.{find_word}
 
 -- the list's entry at a place, if there is one

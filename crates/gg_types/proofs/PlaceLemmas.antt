@@ -6,7 +6,7 @@ use Rattle.std.specs.Str.{bytes_eq}
 use Rattle.std.proofs.lemmas.Option.{none-some}
 use Rattle.gg_types.specs.declared.way.Way.{Way}
 use Rattle.gg_bits.specs.Lists.{find_word}
-use Rattle.gg_types.specs.Places.{place_in, way_at}
+use Rattle.gg_types.specs.inside.Places.{place_in, way_at}
 
 pub same_bytes : (a b : List ℕ) → bytes_eq a b ≡ true → a ≡ b
 same_bytes a b h = (bytes_eq-Decides a b).0 h

@@ -9,7 +9,7 @@ use Rattle.gg_ast.specs.declared.statement.Stmt.{Stmt}
 use Rattle.gg_shape_names.specs.declared.role.Role.{Role}
 use Rattle.gg_shape_names.specs.Namespace.{name_by, names_after, port_names}
 use Rattle.gg_types.specs.declared.sort.Own.{Own}
-use Rattle.gg_types.specs.Named.{AreNext}
+use Rattle.gg_types.specs.inside.Named.{AreNext}
 use Rattle.gg_types.specs.Owned.{port_own}
 use Rattle.gg_types.specs.Types.{known_after, own_by}
 

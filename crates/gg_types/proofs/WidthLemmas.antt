@@ -29,7 +29,8 @@ use Rattle.gg_shape_names.specs.declared.role.PortField.{PortField}
 use Rattle.gg_shape_names.specs.declared.role.PortField.TheVariants.{Addr, En, Clk, Data, Mask}
 use Rattle.gg_shape_names.specs.Memory.{memory_ports, port_fields}
 use Rattle.gg_shape_names.specs.Modules.{module_at}
-use Rattle.gg_shape_names.specs.Namespace.{module_named, entry_by_port, entries_by, entries_by_kind, instance_ports, instance_port, port_entries, port_field, scope_of, meaning_of, names_in, role_of_port, role_of_instance_port}
+use Rattle.gg_shape_names.specs.Namespace.{module_named, entry_by_port, entries_by, entries_by_kind, instance_ports, instance_port, port_entries, port_field, scope_of, meaning_of, role_of_port, role_of_instance_port}
+use Rattle.gg_shape_names.specs.inside.Namespace.{names_in}
 use Rattle.gg_shape_names.specs.Scope.{entry_of, first_name, same_reference}
 use Rattle.gg_shape.specs.declared.fault.Fault.{Fault}
 use Rattle.gg_shape.specs.declared.fault.Word.{Word}
@@ -44,10 +45,10 @@ use Rattle.gg_types.specs.Clocks.{leads_to_input}
 use Rattle.gg_types.specs.Fields.{first_said, type_said}
 use Rattle.gg_bits.specs.Lists.{or_else, find_word}
 use Rattle.gg_types.specs.Literal.{literal_fits}
-use Rattle.gg_types.specs.Named.{owned}
+use Rattle.gg_types.specs.inside.Named.{owned}
 use Rattle.gg_types.specs.Owned.{port_own, single, field_of, field_sort, typed_by, typed, known_entry, known_sort, sort_of_reference}
 use Rattle.gg_types.specs.Sorts.{is_clock, sort_of, bits}
-use Rattle.gg_types.specs.Typed.{IsTyped}
+use Rattle.gg_types.specs.inside.Typed.{IsTyped}
 use Rattle.gg_types.specs.Types.{is_width, width_faults, stored_type_faults, field_faults, memory_type_faults, literal_sort, read_sort, is_traced, result1, result2, result3, result_sort, sort_in, faults_of_kind, own_by, known_after, faults_of, port_faults, faults_of_module, type_faults, known_in, sort_named}
 use Rattle.gg_types.proofs.StepLemmas.{known_after-push}
 

@@ -26,7 +26,8 @@ use Rattle.gg_shape.specs.declared.fault.Fault.TheVariants.{WrongKind, WrongWidt
 use Rattle.gg_shape.specs.declared.fault.Word.TheVariants as word
 use Rattle.gg_types.specs.declared.sort.Sort.TheVariants as sort
 use Rattle.gg_types.specs.Literal.{digit}
-use Rattle.gg_types.specs.Types.{type_faults, sort_named, sort_within}
+use Rattle.gg_types.specs.Types.{type_faults, sort_named}
+use Rattle.gg_types.specs.inside.Types.{sort_within}
 
 -- ---- parts of circuits
 

@@ -163,11 +163,6 @@ abbrev pub clock_from : ℕ → List Port → List ℕ → Option ℕ
 clock_from count [] name = None
 clock_from count (p ∷ ps) name = if bytes_eq name p.name then clock_number count p else clock_from (counted_clock count p) ps name
 
--- the same for each port
-abbrev pub clock_numbers : ℕ → List Port → List (Option ℕ)
-clock_numbers count [] = []
-clock_numbers count (p ∷ ps) = clock_number count p ∷ clock_numbers (counted_clock count p) ps
-
 -- The number of the port of this name among the Clock inputs, in port order from 0; none if it isn't one.
 abbrev pub clock_named : List Port → List ℕ → Option ℕ
 clock_named ports name = clock_from 0 ports name

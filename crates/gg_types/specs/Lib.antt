@@ -1,10 +1,8 @@
 pub mod Literal
 pub mod Sorts
-pub mod Named
 pub mod Fields
 pub mod Memories
 pub mod Owned
 pub mod Clocks
-pub mod Places
 pub mod Types
-pub mod Typed
+pub mod inside

@@ -2,7 +2,7 @@
 -- Source: FIRRTL Specification, "Memories" (data type, depth, latencies, ports, read-under-write). This program's
 -- profile: if a field occurs twice, the first counts; if read-under-write is missing, it is `undefined`.
 pub use Rattle.gg_types.specs.Fields.{first_said, type_said, depth_said}
-use Rattle.std.specs.Prelude.{ℕ, zero, suc, List, [], Option, Some, None, ◌&&◌, nat_le, nat_lt, map, flat_map, if◌then◌else◌, option_and_then, unwrap_or}
+use Rattle.std.specs.Prelude.{ℕ, zero, suc, List, [], Option, Some, None, ◌&&◌, nat_le, nat_lt, flat_map, if◌then◌else◌, option_and_then, unwrap_or}
 use Rattle.gg_bits.specs.Shape.{Shape, uint, sint, shape}
 use Rattle.gg_ast.specs.declared.module.GroundType.{GroundType}
 use Rattle.gg_ast.specs.declared.module.GroundType.TheVariants.{UInt, SInt, Clock}
@@ -15,7 +15,6 @@ use Rattle.gg_flat.specs.declared.memory.UnderWrite.{UnderWrite}
 use Rattle.gg_flat.specs.declared.memory.UnderWrite.TheVariants.{Old, New, Undefined}
 use Rattle.gg_flat.specs.declared.memory.Latency.{Latency}
 use Rattle.gg_flat.specs.declared.memory.Latency.TheVariants.{Zero, One}
-use Rattle.gg_types.specs.declared.memory.Bank as kept
 
 -- ---- types
 
@@ -112,14 +111,3 @@ bank_of fields =
     (option_and_then (latency_of (unwrap_or (first_said under_said fields) Undefined)) (first_said latency_said fields))
     (flat_map (λ (f : Field). readers_said f.kind) fields)
     (flat_map (λ (f : Field). writers_said f.kind) fields)
-
--- a memory, as it is kept
-abbrev pub bank_seen : kept.Bank → Bank
-bank_seen b =
-    record {
-      word = shape b.word;
-      depth = b.depth;
-      latency = b.latency;
-      readers = map (λ n. n.now) b.readers.items;
-      writers = map (λ n. n.now) b.writers.items;
-    }

@@ -339,7 +339,3 @@ known_in modules m = known_after (scope_of modules m) (leads_to_input m) (map po
 -- the type of what a reference names in a module; for a Clock, whether it leads to an input port or not
 abbrev pub sort_named : List ModuleTree → ModuleTree → Reference → Option Sort
 sort_named modules m r = sort_of_reference (scope_of modules m) (known_in modules m) r
-
--- the type of an expression in a module
-abbrev pub sort_within : List ModuleTree → ModuleTree → Term → Option Sort
-sort_within modules m e = sort_in (scope_of modules m) (leads_to_input m) (known_in modules m) e

@@ -4,9 +4,9 @@ ghost use Rattle.std.specs.Option.{option_map};
 ghost use Rattle.gg_shape_names.specs.Modules.{module_at, Holds};
 ghost use Rattle.gg_shape.specs.Judged.{IsShaped};
 ghost use Rattle.gg_types.specs.Clocks.{clock_followed};
-ghost use Rattle.gg_types.specs.Typed.{IsTyped, sort};
+ghost use Rattle.gg_types.specs.inside.Typed.{IsTyped, sort};
 ghost use Rattle.gg_types.specs.Types.{sort_named, type_faults};
-ghost use Rattle.gg_graph.specs.Graph.{IsOrderOf};
+ghost use Rattle.gg_graph.specs.inside.Graph.{IsOrderOf};
 
 use crate::lookup::sort_of_name;
 use crate::sort::{Own, Sort, Typing};
@@ -45,7 +45,7 @@ impl Drop for Typed<'_> {
 impl<'a> Model for Typed<'a> {
     ghost use Rattle.gg_ast.specs.contracts.expression.Expr as expression;
     ghost use Rattle.std.specs.Coded.{codes};
-    ghost use Rattle.gg_types.specs.Typed.{TypedTree, IsTyped};
+    ghost use Rattle.gg_types.specs.inside.Typed.{TypedTree, IsTyped};
 
     ghost Value = { TypedTree };
 

@@ -2,8 +2,9 @@
 ghost use Rattle.std.specs.Prelude.{◌≡◌, ◌<◌, Some, length};
 ghost use Rattle.std.specs.Option.{option_map};
 ghost use Rattle.gg_shape_names.specs.Modules.{module_at};
-ghost use Rattle.gg_shape_names.specs.Namespace.{names_in, scope_of};
-ghost use Rattle.gg_types.specs.Named.{owned};
+ghost use Rattle.gg_shape_names.specs.inside.Namespace.{names_in};
+ghost use Rattle.gg_shape_names.specs.Namespace.{scope_of};
+ghost use Rattle.gg_types.specs.inside.Named.{owned};
 ghost use Rattle.gg_bits.specs.Lists.{find_word};
 ghost use Rattle.gg_types.specs.Owned.{known_entry, typed_by, single, field_of};
 

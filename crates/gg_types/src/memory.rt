@@ -3,7 +3,8 @@ ghost use Rattle.std.specs.Prelude.{◌≡◌, ◌++◌, map, flat_map, option_m
 ghost use Rattle.gg_bits.specs.Shape.{shape, of_kind};
 ghost use Rattle.gg_ast.specs.declared.statement.Field.{Field};
 ghost use Rattle.gg_types.specs.Fields.{first_said, type_said, depth_said};
-ghost use Rattle.gg_types.specs.Memories.{type_shape, sized as sized_shape, latency_said, under_said, under_write, readers_said, writers_said, latency_of, bank_of, bank_with, bank_seen};
+ghost use Rattle.gg_types.specs.Memories.{type_shape, sized as sized_shape, latency_said, under_said, under_write, readers_said, writers_said, latency_of, bank_of, bank_with};
+ghost use Rattle.gg_types.specs.inside.Memories.{bank_seen};
 
 use gg_ast::{Field, GroundType, MemoryField, ReadUnderWrite};
 use gg_bits::{Kind, Name, Ty};

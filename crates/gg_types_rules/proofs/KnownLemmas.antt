@@ -5,12 +5,13 @@ use Rattle.gg_ast.specs.declared.module.Port.{Port}
 use Rattle.gg_ast.specs.declared.statement.Stmt.{Stmt}
 use Rattle.gg_ast.specs.Tree.{CircuitTree, ModuleTree}
 use Rattle.gg_shape_names.specs.Modules.{module_at}
-use Rattle.gg_shape_names.specs.Namespace.{names_in, scope_of}
+use Rattle.gg_shape_names.specs.inside.Namespace.{names_in}
+use Rattle.gg_shape_names.specs.Namespace.{scope_of}
 use Rattle.gg_shape_names.specs.Along.{along}
 use Rattle.gg_types_rules.specs.declared.known.Known.{Known}
 use Rattle.gg_types.specs.Clocks.{leads_to_input}
-use Rattle.gg_types_rules.specs.Known.{names_seen, roles_seen, traced_seen}
-use Rattle.gg_types.specs.Named.{flagged}
+use Rattle.gg_types_rules.specs.inside.Known.{names_seen, roles_seen, traced_seen}
+use Rattle.gg_types.specs.inside.Named.{flagged}
 use Rattle.gg_types.specs.Owned.{port_own}
 use Rattle.gg_types.specs.Types.{port_faults, faults_of, known_after, known_in, faults_of_module}
 

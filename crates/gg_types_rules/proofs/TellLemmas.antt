@@ -6,7 +6,7 @@ use Rattle.std.proofs.lemmas.Bool.Decides.{nat_tests}
 use Rattle.gg_ast.specs.Tree.{ModuleTree}
 use Rattle.gg_shape_names.specs.Modules.{module_at}
 use Rattle.gg_types.specs.declared.sort.Own.{Own}
-use Rattle.gg_types.specs.Typed.{TellsOwn, TellModules, TellsClocks, TellAllClocks}
+use Rattle.gg_types.specs.inside.Typed.{TellsOwn, TellModules, TellsClocks, TellAllClocks}
 
 module _ {X : Type 0} (nothing : X) (modules : List ModuleTree) (Tells : ModuleTree → X → Type 0) where
   each-more : (n : ℕ) (lists new : List X) (list : X) → length lists ≡ n → new ≡ lists ++ list ∷ [] → Tells (module_at modules n) list → ((k : ℕ) → k < n → Tells (module_at modules k) (slice_index_or lists k nothing)) → (k : ℕ) → k < n + 1 → Tells (module_at modules k) (slice_index_or new k nothing)

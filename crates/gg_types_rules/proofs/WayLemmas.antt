@@ -7,10 +7,11 @@ use Rattle.gg_ast.specs.declared.statement.Stmt.{Stmt}
 use Rattle.gg_ast.specs.declared.statement.StmtKind as statements
 use Rattle.gg_ast.specs.declared.statement.StmtKind.TheVariants as kinds
 use Rattle.gg_ast.specs.Tree.{ModuleTree}
-use Rattle.gg_shape_names.specs.Namespace.{name_by, name_by_kind, names_in}
+use Rattle.gg_shape_names.specs.Namespace.{name_by, name_by_kind}
+use Rattle.gg_shape_names.specs.inside.Namespace.{names_in}
 use Rattle.gg_types.specs.declared.way.Way.{Way}
 use Rattle.gg_types.specs.Clocks.{port_way, way_of_port, ways_by, ways_of}
-use Rattle.gg_types.specs.Places.{place_in}
+use Rattle.gg_types.specs.inside.Places.{place_in}
 use Rattle.gg_types.proofs.PlaceLemmas.{place-within}
 
 abbrev name_of : List ℕ × Way → List ℕ

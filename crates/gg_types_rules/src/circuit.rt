@@ -2,13 +2,14 @@
 ghost use Rattle.std.specs.Prelude.{◌≡◌, ◌<◌, ◌++◌, ◌∷◌, ℕ, List, [], IfOk, length, flat_map, take};
 ghost use Rattle.gg_shape_names.specs.Modules.{module_at, Holds};
 ghost use Rattle.gg_shape_names.specs.Namespace.{scope_of};
-ghost use Rattle.gg_shape.specs.Faults.{Answers};
+ghost use Rattle.gg_shape.specs.inside.Faults.{Answers};
 ghost use Rattle.gg_shape.specs.Judged.{IsShaped};
 ghost use Rattle.gg_shape.specs.Rings.{HasNoRing};
 ghost use Rattle.gg_types.specs.Clocks.{leads_to_input};
-ghost use Rattle.gg_types.specs.Typed.{TellsOwn, TellModules, TellsClocks, TellAllClocks};
+ghost use Rattle.gg_types.specs.inside.Typed.{TellsOwn, TellModules, TellsClocks, TellAllClocks};
 ghost use Rattle.gg_types.specs.Types.{module_type_faults, faults_of_module, type_faults};
-ghost use Rattle.gg_graph.specs.Graph.{IsOrderOf, IsRing};
+ghost use Rattle.gg_graph.specs.inside.Graph.{IsOrderOf};
+ghost use Rattle.gg_graph.specs.Graph.{IsRing};
 
 use crate::clocks::{Traces, trace};
 use crate::known::Known;

@@ -2,11 +2,11 @@
 ghost use Rattle.std.specs.Prelude.{◌≡◌, ◌<◌, ◌+◌, ◌*◌, ◌≤◌, ◌-◌, ◌%◌, ◌/◌, ◌++◌, ℕ, List, IfOk, IfSome, length, map, flat_map, option_copied, option_to_list, slice_index, Some, None, if◌then◌else◌};
 ghost use Rattle.gg_ast.specs.Tree.{ModuleTree};
 ghost use Rattle.gg_shape_names.specs.Modules.{module_at};
-ghost use Rattle.gg_shape_names.specs.Namespace.{names_in};
+ghost use Rattle.gg_shape_names.specs.inside.Namespace.{names_in};
 ghost use Rattle.gg_types.specs.Clocks.{bare as bare_name, driven_by, is_followed as leads_on, is_outside as comes_from_outside, leads, leads_to_input, way_of_port as port_way, ways_by, ways_of};
-ghost use Rattle.gg_types.specs.Named.{flagged};
-ghost use Rattle.gg_types.specs.Places.{ArePlaces, TellsNext, Reaches, next_at, place_in, with_driven, way_at};
-ghost use Rattle.gg_types.specs.Typed.{TellsClocks};
+ghost use Rattle.gg_types.specs.inside.Named.{flagged};
+ghost use Rattle.gg_types.specs.inside.Places.{ArePlaces, TellsNext, Reaches, next_at, place_in, with_driven, way_at};
+ghost use Rattle.gg_types.specs.inside.Typed.{TellsClocks};
 
 use crate::circuit::module_of;
 use crate::inputs::{clock_numbers, numbers_reached};

@@ -1,9 +1,9 @@
 //! The type of an expression, and its first fault.
 ghost use Rattle.std.specs.Prelude.{◌≡◌, ◌++◌, ◌<◌, Some, IfOk, Err, length};
-ghost use Rattle.gg_bits.specs.Shape.{shape_of};
+ghost use Rattle.gg_bits.specs.inside.Shape.{shape_of};
 ghost use Rattle.gg_bits.specs.ResultType.{type1, type2, type_const, type_mux};
-ghost use Rattle.gg_shape.specs.Faults.{Answers};
-ghost use Rattle.gg_types_rules.specs.Known.{roles_seen, traced_seen, owned_seen};
+ghost use Rattle.gg_shape.specs.inside.Faults.{Answers};
+ghost use Rattle.gg_types_rules.specs.inside.Known.{roles_seen, traced_seen, owned_seen};
 ghost use Rattle.gg_types.specs.Owned.{sort_of_reference};
 ghost use Rattle.gg_types.specs.Types.{undeclared, clock_faults, read_sort, literal_faults, literal_sort, sort_in, faults_in, result1 as result_1, result2 as result_2, result3 as result_3, is_traced, result_faults, result_sort};
 ghost use Rattle.gg_shape.specs.declared.fault.Word.TheVariants as words;

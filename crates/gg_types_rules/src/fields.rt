@@ -1,6 +1,6 @@
 //! The fields of a memory (FIRRTL Specification, "Memories").
 ghost use Rattle.std.specs.Prelude.{◌≡◌};
-ghost use Rattle.gg_shape.specs.Faults.{Answers};
+ghost use Rattle.gg_shape.specs.inside.Faults.{Answers};
 ghost use Rattle.gg_types.specs.Types.{field_faults, memory_type_faults};
 
 use crate::places::stored_type;

@@ -1,6 +1,7 @@
 //! The Clock inputs of a module, counted in port order.
 ghost use Rattle.std.specs.Prelude.{◌≡◌, None, IfOk, map, slice_index_or};
-ghost use Rattle.gg_types.specs.Clocks.{counted_clock, clock_number as number_of_port, clock_numbers as numbers_of_ports};
+ghost use Rattle.gg_types.specs.Clocks.{counted_clock, clock_number as number_of_port};
+ghost use Rattle.gg_types.specs.inside.Clocks.{clock_numbers as numbers_of_ports};
 
 use gg_ast::Port;
 use gg_types::is_clock_input;

@@ -2,7 +2,7 @@
 ghost use Rattle.std.specs.Prelude.{◌≡◌, Some};
 ghost use Rattle.std.specs.Option.{option_map};
 ghost use Rattle.gg_types.specs.Owned.{known_entry};
-ghost use Rattle.gg_types_rules.specs.Known.{roles_seen, traced_seen, owned_seen};
+ghost use Rattle.gg_types_rules.specs.inside.Known.{roles_seen, traced_seen, owned_seen};
 
 use crate::known::Known;
 use gg_ast::Reference;

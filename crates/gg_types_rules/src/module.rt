@@ -2,8 +2,8 @@
 ghost use Rattle.std.specs.Prelude.{◌≡◌, ◌++◌, [], map, flat_map, OnOk, length};
 ghost use Rattle.gg_shape_names.specs.Namespace.{names_after};
 ghost use Rattle.gg_shape_names.specs.Along.{along};
-ghost use Rattle.gg_shape.specs.Faults.{Answers};
-ghost use Rattle.gg_types_rules.specs.Known.{names_seen, roles_seen, traced_seen, owned_seen};
+ghost use Rattle.gg_shape.specs.inside.Faults.{Answers};
+ghost use Rattle.gg_types_rules.specs.inside.Known.{names_seen, roles_seen, traced_seen, owned_seen};
 ghost use Rattle.gg_types.specs.Owned.{port_own};
 ghost use Rattle.gg_types.specs.Types.{port_faults, faults_of, known_after};
 

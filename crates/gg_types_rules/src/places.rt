@@ -1,8 +1,9 @@
 //! Declared types, and positions with a rule of their own: clocks, conditions, connections.
 ghost use Rattle.std.specs.Prelude.{◌≡◌, ◌≤◌, ◌<◌, ◌++◌, true, not, Some, length};
-ghost use Rattle.gg_shape.specs.Faults.{Answers, fault_if};
+ghost use Rattle.gg_shape.specs.inside.Faults.{Answers};
+ghost use Rattle.gg_shape.specs.Faults.{fault_if};
 ghost use Rattle.gg_shape.specs.declared.fault.Fault.TheVariants.{WrongWidth};
-ghost use Rattle.gg_types_rules.specs.Known.{roles_seen, traced_seen, owned_seen};
+ghost use Rattle.gg_types_rules.specs.inside.Known.{roles_seen, traced_seen, owned_seen};
 ghost use Rattle.gg_types.specs.Types.{is_width, width_faults, stored_type_faults, clock_faults_in, clock_position, condition_faults_in, condition_position, connected as connected_faults, bits_connected};
 
 use crate::expression::{type_of, wrong_kind};

@@ -1,6 +1,7 @@
 //! The types of operations on operands of any width (FIRRTL Specification, "Primitive Operations").
 ghost use Rattle.std.specs.Prelude.{◌≡◌, ℕ, min, true};
-ghost use Rattle.gg_bits.specs.Shape.{of_kind, shape_of};
+ghost use Rattle.gg_bits.specs.Shape.{of_kind};
+ghost use Rattle.gg_bits.specs.inside.Shape.{shape_of};
 ghost use Rattle.gg_bits.specs.ResultType.{within, shape1, type1, kinds2, shape2, type2, params_const, shape_const, type_const, type_mux};
 
 use gg_bits::{Bad, Kind, Op1, Op2, OpN, Ty, shifted_width};

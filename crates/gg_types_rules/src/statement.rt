@@ -2,10 +2,10 @@
 ghost use Rattle.std.specs.Prelude.{◌≡◌, ◌++◌, ◌∷◌, [], ℕ, List, Some, OnOk, ◌+◌, length, option_map};
 ghost use Rattle.gg_shape_names.specs.Namespace.{name_by};
 ghost use Rattle.gg_shape.specs.declared.fault.Word.TheVariants as words;
-ghost use Rattle.gg_shape.specs.Faults.{Answers};
+ghost use Rattle.gg_shape.specs.inside.Faults.{Answers};
 ghost use Rattle.gg_types.specs.declared.sort.Own.TheVariants.{Single};
-ghost use Rattle.gg_types_rules.specs.Known.{names_seen, roles_seen, traced_seen, owned_seen};
-ghost use Rattle.gg_types.specs.Named.{AreNext};
+ghost use Rattle.gg_types_rules.specs.inside.Known.{names_seen, roles_seen, traced_seen, owned_seen};
+ghost use Rattle.gg_types.specs.inside.Named.{AreNext};
 ghost use Rattle.gg_types.specs.Owned.{memory_own, sort_of_reference};
 ghost use Rattle.gg_types.specs.Sorts.{sort_of};
 ghost use Rattle.gg_types.specs.Types.{width_faults, faults_in, sort_in, memory_type_faults, faults_of_kind, own_by, register_faults, connection_faults, reset_faults, report_faults, argument_faults, invalid_faults, undeclared};

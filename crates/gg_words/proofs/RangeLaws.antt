@@ -10,7 +10,8 @@ use Rattle.clap.specs.Simple.{subcommand_of}
 use Rattle.gg_words.specs.Line.{golden_app}
 use Rattle.gg_words.specs.Meaning.{FoundSays, IsCommand, at_of, capacity_of, check_of, demo_of, is_set, replay_of, resume_of, run_of, save_of, seed_of, size_of, text_of, with_number, workers_of}
 use Rattle.gg_words.specs.Number.{judged, number_of}
-use Rattle.gg_words.specs.Range.{AreInRange, IsCapacity, IsWithin, greatest_seed, most_stages, most_workers}
+use Rattle.gg_words.specs.inside.Range.{AreInRange}
+use Rattle.gg_words.specs.Range.{IsCapacity, IsWithin, greatest_seed, most_stages, most_workers}
 use Rattle.gg_words.specs.declared.command.Cmd.{Cmd}
 use Rattle.gg_words.specs.declared.command.Cmd.TheVariants.{Run, Replay, Check, Demo, Save, Resume}
 

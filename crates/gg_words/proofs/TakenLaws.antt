@@ -13,7 +13,7 @@ use Rattle.clap.specs.Faults.{check_fault, defaults_fault, entered_fault, fault_
 use Rattle.clap.specs.Walk.{answers_to}
 use Rattle.clap.specs.declared.error.kind.ErrorKind.{ErrorKind}
 use Rattle.gg_words.specs.Line.{golden_app}
-use Rattle.gg_words.specs.Meaning.{HaveTexts, HasWords, run_files, replay_files, check_files, demo_numbers, save_words, resume_files}
+use Rattle.gg_words.specs.inside.Meaning.{HaveTexts, HasWords, run_files, replay_files, check_files, demo_numbers, save_words, resume_files}
 use Rattle.gg_words.proofs.FileLaws.{AreFull, find-all, find-passes, full-finished, full-walk, has_value}
 
 cons≢nil : (k : ErrorKind) (ks : Kinds) → k ∷ ks ≡ [] → ⊥

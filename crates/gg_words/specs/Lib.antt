@@ -4,3 +4,4 @@ pub mod Number
 pub mod Unexpected
 pub mod Meaning
 pub mod Range
+pub mod inside

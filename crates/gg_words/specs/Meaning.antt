@@ -1,6 +1,6 @@
 -- What words mean: a command, or why they aren't one.
 -- Source: `clap`'s definitions for which words are taken (`fault_of`) and what is found in them (`subcommand_of`).
-use Rattle.std.specs.Prelude.{◌≡◌, ◌⊎◌, ℕ, Bool, true, false, List, [], ◌∷◌, Option, None, Some, is_some, Result, Ok, Err, MatchResult, String, codes, cond, map, string_bytes, unwrap_or, ⊤}
+use Rattle.std.specs.Prelude.{◌≡◌, ℕ, Bool, false, List, [], Option, None, Some, Result, Ok, Err, String, codes, cond, map, string_bytes, unwrap_or, ⊤}
 use Rattle.std.specs.Option.{option_map_or}
 use Rattle.std.specs.Str.{bytes_eq}
 use Rattle.gg_bits.specs.Limits.{capacity_limit, cycle_limit}
@@ -121,53 +121,6 @@ IfWordFault words (Unexpected word) = IsWordFault words (Unexpected word)
 IfWordFault words (Refused kind) = IsWordFault words (Refused kind)
 IfWordFault words (WrongNumber value) = IsWordFault words (WrongNumber value)
 IfWordFault words NoMemory = ⊤
-
--- a fault agrees with what was found; `clap` refused nothing there
-abbrev pub SaysFault : {T : Type 0} → WordFault → Result T Text → Type 0
-SaysFault (Unexpected word) said = ⊥
-SaysFault (Refused kind) said = ⊥
-SaysFault (WrongNumber value) said = said ≡ Err value
-SaysFault NoMemory said = ⊤
-
--- the result is what was found, or `NoMemory`
-abbrev pub Answers : {T : Type 0} → Result T WordFault → Result T Text → Type 0
-Answers result said = MatchResult result (λ x. said ≡ Ok x) (λ fault. SaysFault fault said)
-
--- for each of these arguments a text was found
-abbrev pub HaveTexts : List Text → List Row → Type 0
-HaveTexts [] rows = ⊤
-HaveTexts (id ∷ ids) rows = (is_some (first_of id rows) ≡ true) × HaveTexts ids rows
-
--- the words that each command requires, by their places: its files, or a demo's numbers
-abbrev pub run_files : List Text
-run_files = codes "circuit" ∷ codes "partition" ∷ codes "trace" ∷ []
-
--- the files of `replay`
-abbrev pub replay_files : List Text
-replay_files = codes "circuit" ∷ codes "partition" ∷ codes "trace" ∷ codes "steps" ∷ []
-
--- the files of `check`
-abbrev pub check_files : List Text
-check_files = codes "circuit" ∷ codes "partition" ∷ []
-
--- the numbers of `demo`
-abbrev pub demo_numbers : List Text
-demo_numbers = codes "seed" ∷ codes "size" ∷ []
-
--- the files of `save`, and the cycle of the snapshot
-abbrev pub save_words : List Text
-save_words = codes "circuit" ∷ codes "partition" ∷ codes "trace" ∷ codes "at" ∷ []
-
--- the files of `resume`
-abbrev pub resume_files : List Text
-resume_files = codes "circuit" ∷ codes "partition" ∷ codes "trace" ∷ codes "snap" ∷ []
-
--- a command was found, and each word that it requires was given
-abbrev pub HasWords : Option (Text × List Row) → Type 0
-HasWords None = ⊥
-HasWords (Some found) = ((found.0 ≡ codes "run") × HaveTexts run_files found.1) ⊎ ((found.0 ≡ codes "replay") × HaveTexts replay_files found.1)
-    ⊎ ((found.0 ≡ codes "check") × HaveTexts check_files found.1) ⊎ ((found.0 ≡ codes "demo") × HaveTexts demo_numbers found.1)
-    ⊎ ((found.0 ≡ codes "save") × HaveTexts save_words found.1) ⊎ ((found.0 ≡ codes "resume") × HaveTexts resume_files found.1)
 
 -- the texts of the words
 abbrev pub texts : {Y : Type 0} → List (String Y) → List Text

@@ -1,9 +1,7 @@
 -- The ranges of a command's numbers.
 -- Source: this program's own command line: K is 1 to 4,096, W is 0 to 64, SEED is 0 to 4,294,967,295, SIZE is 1 to 64, AT is 0 to 1,000,000.
 use Rattle.std.specs.Prelude.{ℕ, ◌≤◌}
-use Rattle.gg_bits.specs.Limits.{capacity_limit, cycle_limit}
-use Rattle.gg_words.specs.declared.command.Cmd.{Cmd}
-use Rattle.gg_words.specs.declared.command.Cmd.TheVariants.{Run, Replay, Check, Demo, Save, Resume}
+use Rattle.gg_bits.specs.Limits.{capacity_limit}
 
 -- the number is in this range, both ends included
 abbrev pub IsWithin : (least most : ℕ) → ℕ → Type 0
@@ -24,12 +22,3 @@ most_stages = 64
 -- a capacity that may be asked for: 1 to 4,096
 abbrev pub IsCapacity : ℕ → Type 0
 IsCapacity n = IsWithin 1 capacity_limit n
-
--- each number of the command is in its range
-abbrev pub AreInRange : Cmd → Type 0
-AreInRange (Run circuit partition trace capacity workers mono) = IsCapacity capacity × IsWithin 0 most_workers workers
-AreInRange (Replay circuit partition trace steps capacity) = IsCapacity capacity
-AreInRange (Check circuit partition capacity) = IsCapacity capacity
-AreInRange (Demo seed size workers) = IsWithin 0 greatest_seed seed × IsWithin 1 most_stages size × IsWithin 0 most_workers workers
-AreInRange (Save circuit partition trace at capacity workers) = IsWithin 0 cycle_limit at × IsCapacity capacity × IsWithin 0 most_workers workers
-AreInRange (Resume circuit partition trace snap capacity workers) = IsCapacity capacity × IsWithin 0 most_workers workers

@@ -3,9 +3,10 @@ ghost use Rattle.std.specs.Prelude.{◌≡◌, ℕ, List, [], Result};
 ghost use Rattle.clap.specs.Simple.{subcommand_of};
 ghost use Rattle.clap.specs.Faults.{fault_of};
 ghost use Rattle.gg_words.specs.Line.{golden_app};
-ghost use Rattle.gg_words.specs.Meaning.{IsWordFault, HasWords, Says, IsCommand};
+ghost use Rattle.gg_words.specs.Meaning.{IsWordFault, Says, IsCommand};
+ghost use Rattle.gg_words.specs.inside.Meaning.{HasWords};
 ghost use Rattle.gg_words.specs.Unexpected.{IsUnexpected};
-ghost use Rattle.gg_words.specs.Range.{AreInRange};
+ghost use Rattle.gg_words.specs.inside.Range.{AreInRange};
 ghost use Rattle.gg_words.specs.declared.command.Cmd.{Cmd};
 ghost use Rattle.gg_words.specs.declared.command.WordFault.{WordFault};
 

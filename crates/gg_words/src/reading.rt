@@ -8,7 +8,8 @@ ghost use Rattle.clap.specs.Kinds.{IsAmong};
 ghost use Rattle.gg_words.specs.Line.{golden_app};
 ghost use Rattle.gg_words.specs.Unexpected.{IsUnexpected, has_unexpected, is_for_word};
 ghost use Rattle.gg_words.specs.Number.{judged, number_of};
-ghost use Rattle.gg_words.specs.Meaning.{Answers, FoundSays, IfWordFault, IsCommand, IsWordFault, HasWords, SaysFault, at_of, capacity_of, check_of, demo_of, is_set, replay_of, resume_of, run_of, save_of, text_of, texts, workers_of};
+ghost use Rattle.gg_words.specs.inside.Meaning.{Answers, HasWords, SaysFault};
+ghost use Rattle.gg_words.specs.Meaning.{FoundSays, IfWordFault, IsCommand, IsWordFault, at_of, capacity_of, check_of, demo_of, is_set, replay_of, resume_of, run_of, save_of, text_of, texts, workers_of};
 ghost use Rattle.gg_words.specs.declared.command.Cmd.{Cmd};
 ghost use Rattle.gg_words.specs.declared.command.WordFault.{WordFault};
 

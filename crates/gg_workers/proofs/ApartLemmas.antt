@@ -10,15 +10,15 @@ use Rattle.gg_node.specs.Machine.{Machine, machine_at}
 use Rattle.gg_net.specs.declared.shape.Station.{Station}
 use Rattle.gg_net.specs.Network.{Network, wire_at, kind_at, frame_of}
 use Rattle.gg_net.specs.Kept.{IsWired, Kept}
-use Rattle.gg_net.specs.Net.{IsListed, AreListed}
-use Rattle.gg_workers_pass.specs.SeatLists.{seat_at, RowPutBack, IsBack}
-use Rattle.gg_workers_pass.specs.Pass.{HasSeats}
+use Rattle.gg_net.specs.inside.Net.{IsListed, AreListed}
+use Rattle.gg_workers_pass.specs.inside.SeatLists.{seat_at, RowPutBack, IsBack}
+use Rattle.gg_workers_pass.specs.inside.Pass.{HasSeats}
 use Rattle.gg_workers_pass.specs.declared.machine_seats.MachineSeats.{MachineSeats}
 use Rattle.gg_workers_pass.proofs.AllLemmas.{in-listed, out-listed, ins-of, outs-of}
 use Rattle.gg_workers_pass.proofs.AgainLemmas.{machine_seats-takes, machine_seats-puts}
-use Rattle.gg_workers_pass.specs.Seats.{TakeSeatOf, PutSeatOf}
+use Rattle.gg_workers_pass.specs.inside.Seats.{TakeSeatOf, PutSeatOf}
 use Rattle.gg_workers.specs.declared.host_seats.HostSeats.{HostSeats}
-use Rattle.gg_workers.specs.Apart.{consumer_in, producer_in, MachineBack, HostBack, AllBack, IsOwned}
+use Rattle.gg_workers.specs.inside.Apart.{consumer_in, producer_in, MachineBack, HostBack, AllBack, IsOwned}
 
 -- ---- one machine
 

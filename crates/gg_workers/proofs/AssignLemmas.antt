@@ -6,7 +6,7 @@ use Rattle.std.specs.Prelude.{if◌then◌else◌}
 use Rattle.std.specs.Vec.{vec_capacity}
 use Rattle.gg_workers.specs.declared.worker.LinkedHost.{LinkedHost}
 use Rattle.gg_workers.specs.declared.worker.Worker.{Worker}
-use Rattle.gg_workers.specs.Assigned.{share_of, IsOf, Assigning, IsFrom, Collecting}
+use Rattle.gg_workers.specs.inside.Assigned.{share_of, IsOf, Assigning, IsFrom, Collecting}
 use Rattle.std.proofs.Math.Nat.{mod-lt}
 use Rattle.std.proofs.Common.{Some}
 use Rattle.std.proofs.lemmas.Option.{same_Some}

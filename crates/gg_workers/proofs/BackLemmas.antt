@@ -8,15 +8,15 @@ use Rattle.gg_net.specs.declared.shape.Station.{Station}
 use Rattle.gg_net.specs.declared.shape.Shape.{Shape}
 use Rattle.gg_net.specs.Network.{Network, frame_of}
 use Rattle.gg_net.specs.Kept.{MachineAt, Kept}
-use Rattle.gg_net.specs.Queue.{Held}
-use Rattle.gg_net.specs.Stations.{hosted, stationed, machines_by}
-use Rattle.gg_net.specs.Net.{AreListed, AreParts, joined}
-use Rattle.gg_workers_pass.specs.Pass.{MachineWentOn, EventsDone}
-use Rattle.gg_workers_pass.specs.Seats.{Linked, MayStand, TakeSeatOf, PutSeatOf}
+use Rattle.gg_net.specs.inside.Queue.{Held}
+use Rattle.gg_net.specs.inside.Stations.{hosted, stationed, machines_by}
+use Rattle.gg_net.specs.inside.Net.{AreListed, AreParts, joined}
+use Rattle.gg_workers_pass.specs.inside.Pass.{MachineWentOn, EventsDone}
+use Rattle.gg_workers_pass.specs.inside.Seats.{Linked, MayStand, TakeSeatOf, PutSeatOf}
 use Rattle.gg_workers_pass.proofs.AgainLemmas.{linked-again}
 use Rattle.gg_workers.specs.declared.worker.LinkedHost.{LinkedHost}
-use Rattle.gg_workers.specs.LinkedHosts.{DoneAt, AreLinkedHosts, AreNumbered}
-use Rattle.gg_workers.specs.Apart.{WereStationed, WasJoined, WereLinked, AreSeats}
+use Rattle.gg_workers.specs.inside.LinkedHosts.{DoneAt, AreLinkedHosts, AreNumbered}
+use Rattle.gg_workers.specs.inside.Apart.{WereStationed, WasJoined, WereLinked, AreSeats}
 use Rattle.gg_workers.specs.Work.{IsLater}
 use Rattle.gg_workers.proofs.WorkLemmas as work
 use Rattle.gg_workers.proofs.WorkLemmas.{net-again, net-later}

@@ -3,8 +3,8 @@ use Rattle.std.proofs.Common.{◌≡◌, ℕ, zero, suc, ◌+◌, ◌<◌, ◌�
 use Rattle.std.proofs.lemmas.Bool.{cases_eq}
 use Rattle.std.proofs.lemmas.List.{get_or_append_left}
 use Rattle.std.specs.Prelude.{if◌then◌else◌}
-use Rattle.gg_workers.specs.Assigned.{share_of}
-use Rattle.gg_workers.specs.Turns.{Falls}
+use Rattle.gg_workers.specs.inside.Assigned.{share_of}
+use Rattle.gg_workers.specs.inside.Turns.{Falls}
 use Rattle.gg_workers.proofs.ListLemmas.{last_is}
 
 -- a list with a number behind it, or as it is

@@ -4,12 +4,12 @@ use Rattle.gg_flat.specs.Line.{value_at}
 use Rattle.gg_net.specs.declared.shape.Station.{Station}
 use Rattle.gg_net.specs.Network.{wire_at, kind_at, Frame}
 use Rattle.gg_net.specs.Kept.{IsWired}
-use Rattle.gg_net.specs.Net.{IsListed, AreListed}
-use Rattle.gg_workers_pass.specs.SeatLists.{AreOnce, RowIsThere, RowTakenOut, AreLeft}
+use Rattle.gg_net.specs.inside.Net.{IsListed, AreListed}
+use Rattle.gg_workers_pass.specs.inside.SeatLists.{AreOnce, RowIsThere, RowTakenOut, AreLeft}
 use Rattle.gg_workers_pass.specs.declared.machine_seats.MachineSeats.{MachineSeats}
 use Rattle.gg_workers_pass.proofs.AllLemmas.{ins-once, outs-once, ins-of, outs-of, row-there, row-is, left-more}
 use Rattle.gg_workers.specs.declared.host_seats.HostSeats.{HostSeats}
-use Rattle.gg_workers.specs.HostSeats.{IsEmptyFor, IsFilledFor, seats_at, EachMachine}
+use Rattle.gg_workers.specs.inside.HostSeats.{IsEmptyFor, IsFilledFor, seats_at, EachMachine}
 
 -- the machine at the next station has no seats
 pub empty-here : {S T : Type 0} (stations : List Station) (rows : List (HostSeats S T)) (m : ℕ) (known : m < length stations) (station : Station) (at : (s : Station) → slice_index_or stations m s ≡ station) (old : HostSeats S T) (was : (r : HostSeats S T) → slice_index_or rows station.host r ≡ old)

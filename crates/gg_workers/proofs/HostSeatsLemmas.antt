@@ -3,10 +3,10 @@ use Rattle.std.proofs.Common.{◌≡◌, ◌≢◌, ℕ, ◌+◌, ◌<◌, ◌�
 use Rattle.std.proofs.lemmas.Bool.{cases_eq}
 use Rattle.gg_node.specs.Machine.{Machine}
 use Rattle.gg_net.specs.declared.shape.Station.{Station}
-use Rattle.gg_net.specs.Stations.{hosted, IsStationed, AreStationed}
+use Rattle.gg_net.specs.inside.Stations.{hosted, IsStationed, AreStationed}
 use Rattle.gg_workers_pass.specs.declared.machine_seats.MachineSeats.{MachineSeats}
 use Rattle.gg_workers.specs.declared.host_seats.HostSeats.{HostSeats}
-use Rattle.gg_workers.specs.HostSeats.{seats_at, HasPlaces, EachMachine}
+use Rattle.gg_workers.specs.inside.HostSeats.{seats_at, HasPlaces, EachMachine}
 use Rattle.gg_workers.proofs.ListLemmas.{set_cases}
 
 module _ {S T : Type 0} (rows : List (HostSeats S T)) (h t : ℕ) (old new : HostSeats S T) (q : MachineSeats S T) (inside : h < length rows) (was : (r : HostSeats S T) → slice_index_or rows h r ≡ old) (e : new.by_thread.items ≡ slice_set old.by_thread.items t q) where

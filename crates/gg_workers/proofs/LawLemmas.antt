@@ -9,20 +9,22 @@ use Rattle.gg_net.specs.declared.event.Event.TheVariants.{Latch, Fire, Serve, Fi
 use Rattle.gg_net.specs.Network.{Network, Frame, frame_of}
 use Rattle.gg_net.specs.Kept.{Kept}
 use Rattle.gg_net.specs.Refusal.{Turn}
-use Rattle.gg_net.specs.Step.{facts_of, Ready, machine_of}
+use Rattle.gg_net.specs.Step.{facts_of, Ready}
+use Rattle.gg_net.specs.inside.Step.{machine_of}
 use Rattle.gg_net.proofs.RowLemmas.{ServeGoes, serve-goes}
 use Rattle.gg_net.proofs.TableLemmas.{latch-can, fire-can, serve-can, finish-can}
 use Rattle.gg_net.specs.markings.Marking.{Layout}
-use Rattle.gg_net.specs.markings.LayoutOf.{layout_of}
-use Rattle.gg_net.specs.markings.Fits.{HasLayout, marking_of}
+use Rattle.gg_net.specs.inside.LayoutOf.{layout_of}
+use Rattle.gg_net.specs.inside.Fits.{HasLayout, marking_of}
 use Rattle.gg_net.specs.markings.Steps.{Steps}
 use Rattle.gg_net.proofs.MarkingsLemmas.CountLemmas.{cycle-at, puts-are, takes-are}
-use Rattle.gg_net.specs.markings.Counts.{Counts, counts_of, IsAllowed, AreAtMost, fires, latches, finishes, accesses, IsBehind}
-use Rattle.gg_net.specs.markings.Measure.{sum_below, left_in, left_at, left}
+use Rattle.gg_net.specs.inside.Counts.{Counts, counts_of, IsAllowed, AreAtMost, fires, latches, finishes, accesses, IsBehind}
+use Rattle.gg_net.specs.markings.Measure.{sum_below}
+use Rattle.gg_net.specs.inside.Measure.{left_in, left_at, left}
 use Rattle.gg_net.proofs.MarkingsLemmas.SumLemmas.{one-elsewhere, sum-same, sum-add, sum-one, sum-none}
 use Rattle.gg_net.proofs.MarkingsLemmas.KeepLemmas.{stays-below}
 use Rattle.gg_net.proofs.MarkingsLemmas.MeasureLemmas.{left-below}
-use Rattle.gg_measure.specs.Nets.{net_left}
+use Rattle.gg_measure.specs.inside.Nets.{net_left}
 use Rattle.gg_net.specs.Network.{cycle_at}
 use Rattle.gg_measure.proofs.NetLemmas.{wire-there, machine-there, kind-count, allowed-of, serves-are, left-is}
 use Rattle.gg_measure.proofs.GoLemmas.{laid-out}

@@ -8,20 +8,20 @@ use Rattle.gg_node.specs.Machine.{Machine, no_machine, machine_at}
 use Rattle.gg_net.specs.declared.shape.Station.{Station}
 use Rattle.gg_net.specs.Network.{Network, queue_at, kind_at, frame_of}
 use Rattle.gg_net.specs.Kept.{Kept}
-use Rattle.gg_net.specs.Queue.{Held}
-use Rattle.gg_net.specs.Stations.{hosted, stationed, machines_by, HasStation, AreStationed}
-use Rattle.gg_net.specs.Net.{IsListed, AreListed}
+use Rattle.gg_net.specs.inside.Queue.{Held}
+use Rattle.gg_net.specs.inside.Stations.{hosted, stationed, machines_by, HasStation, AreStationed}
+use Rattle.gg_net.specs.inside.Net.{IsListed, AreListed}
 use Rattle.gg_workers_pass.specs.declared.machine_seats.MachineSeats.{MachineSeats}
-use Rattle.gg_workers_pass.specs.Seats.{Linked, AreNew}
-use Rattle.gg_workers_pass.specs.Pass.{HasSeats, HasNewSeats, MachineWentOn}
+use Rattle.gg_workers_pass.specs.inside.Seats.{Linked, AreNew}
+use Rattle.gg_workers_pass.specs.inside.Pass.{HasSeats, HasNewSeats, MachineWentOn}
 use Rattle.gg_workers_pass.proofs.EventLemmas.{some-of}
 use Rattle.gg_workers_pass.proofs.NetLemmas.{takes-placed, puts-placed}
 use Rattle.gg_workers_pass.proofs.WentLemmas.{went-nowhere}
 use Rattle.gg_workers.specs.declared.worker.LinkedHost.{LinkedHost}
 use Rattle.gg_workers.specs.declared.host_seats.HostSeats.{HostSeats}
-use Rattle.gg_workers.specs.LinkedHosts.{ReadyAt, AreLinkedHosts}
-use Rattle.gg_workers.specs.HostSeats.{IsFilledFor, seats_at, HasPlaces, EachMachine}
-use Rattle.gg_workers.specs.Making.{HaveTheirSeats}
+use Rattle.gg_workers.specs.inside.LinkedHosts.{ReadyAt, AreLinkedHosts}
+use Rattle.gg_workers.specs.inside.HostSeats.{IsFilledFor, seats_at, HasPlaces, EachMachine}
+use Rattle.gg_workers.specs.inside.Making.{HaveTheirSeats}
 use Rattle.gg_workers.proofs.ListLemmas.{get_default}
 
 module _ {X S T : Type 0} (takes_from : X → S → Type 0) (puts_into : X → T → Type 0) (taking : S → SeatState) (putting : T → SeatState) (flow : Flow) (net : Network) (kept : Kept flow net) (stations : List Station) (long : length stations ≡ length net.machines) (listed : AreListed (frame_of net) stations)

@@ -4,9 +4,9 @@ use Rattle.std.specs.Prelude.{◌||◌, MatchBool}
 use Rattle.std.proofs.lemmas.List.{map-set, set-get_or, get_or-map, length-map}
 use Rattle.std.proofs.lemmas.List.Sums.{sum_by-set}
 use Rattle.gg_node.specs.Machine.{Machine, no_machine, machine_at}
-use Rattle.gg_workers_pass.specs.Rows.{steps_by, StepsDone}
+use Rattle.gg_workers_pass.specs.inside.Rows.{steps_by, StepsDone}
 use Rattle.gg_workers.specs.declared.worker.LinkedHost.{LinkedHost}
-use Rattle.gg_workers.specs.Turns.{host_steps, steps_of, machines_in, StepsTold}
+use Rattle.gg_workers.specs.inside.Turns.{host_steps, steps_of, machines_in, StepsTold}
 
 -- ---- one list of which an element changes
 

@@ -6,9 +6,9 @@ use Rattle.gg_node.specs.Machine.{Machine}
 use Rattle.gg_workers_pass.specs.declared.machine_seats.MachineSeats.{MachineSeats}
 use Rattle.gg_workers.specs.declared.worker.LinkedHost.{LinkedHost}
 use Rattle.gg_workers.specs.declared.worker.Worker.{Worker}
-use Rattle.gg_workers.specs.LinkedHosts.{IsLinkedHost, AreLinkedHosts, AreNumbered}
-use Rattle.gg_workers.specs.Assigned.{IsOf, Assigning, IsFrom, Collecting}
-use Rattle.gg_workers.specs.Turns.{Falls}
+use Rattle.gg_workers.specs.inside.LinkedHosts.{IsLinkedHost, AreLinkedHosts, AreNumbered}
+use Rattle.gg_workers.specs.inside.Assigned.{IsOf, Assigning, IsFrom, Collecting}
+use Rattle.gg_workers.specs.inside.Turns.{Falls}
 use Rattle.gg_workers.proofs.FallLemmas.{share-falls}
 
 some-of : {A : Type 0} (xs : List A) (k : ℕ) → k < length xs → A

@@ -7,14 +7,14 @@ use Rattle.gg_node.specs.Machine.{Machine, machine_at}
 use Rattle.gg_net.specs.declared.shape.Station.{Station}
 use Rattle.gg_net.specs.Network.{Network, kind_at, Frame, frame_of}
 use Rattle.gg_net.specs.Kept.{Kept}
-use Rattle.gg_net.specs.Net.{IsListed, AreListed}
-use Rattle.gg_workers_pass.specs.Pass.{HasSeats, HasNewSeats, MachineWentOn, KnownDone, EventsDone}
+use Rattle.gg_net.specs.inside.Net.{IsListed, AreListed}
+use Rattle.gg_workers_pass.specs.inside.Pass.{HasSeats, HasNewSeats, MachineWentOn, KnownDone, EventsDone}
 use Rattle.gg_workers_pass.specs.declared.machine_seats.MachineSeats.{MachineSeats}
 use Rattle.gg_workers_pass.proofs.WentLemmas.{went-further}
 use Rattle.gg_workers_pass.proofs.EventLemmas.{events-later, events-done}
 use Rattle.gg_workers_pass.proofs.NetLemmas.{others-stay}
 use Rattle.gg_workers.specs.declared.worker.LinkedHost.{LinkedHost}
-use Rattle.gg_workers.specs.LinkedHosts.{DoneAt, ReadyAt, EachThread, IsLinkedHost, AreLinkedHosts, AllEnded}
+use Rattle.gg_workers.specs.inside.LinkedHosts.{DoneAt, ReadyAt, EachThread, IsLinkedHost, AreLinkedHosts, AllEnded}
 use Rattle.gg_workers.proofs.ListLemmas.{set_cases}
 
 -- ---- one machine

@@ -11,13 +11,13 @@ use Rattle.gg_net.specs.declared.shape.Wire.{Wire}
 use Rattle.gg_net.specs.declared.shape.Station.{Station}
 use Rattle.gg_net.specs.Network.{Network, frame_of}
 use Rattle.gg_net.specs.Kept.{MachineAt}
-use Rattle.gg_net.specs.Queue.{Held}
-use Rattle.gg_net.specs.Stations.{hosted, stationed, machines_by, IsStationed, AreStationed}
-use Rattle.gg_net.specs.Net.{net_of, IsNet}
+use Rattle.gg_net.specs.inside.Queue.{Held}
+use Rattle.gg_net.specs.inside.Stations.{hosted, stationed, machines_by, IsStationed, AreStationed}
+use Rattle.gg_net.specs.inside.Net.{net_of, IsNet}
 use Rattle.gg_net.proofs.PartLemmas.{frame-rejoined}
-use Rattle.gg_workers_pass.specs.SeatLists.{AllThere, AreBack}
-use Rattle.gg_workers_pass.specs.Pass.{HasSeats, MachineWentOn, EventsDone}
-use Rattle.gg_workers_pass.specs.Seats.{Linked, MayStand}
+use Rattle.gg_workers_pass.specs.inside.SeatLists.{AllThere, AreBack}
+use Rattle.gg_workers_pass.specs.inside.Pass.{HasSeats, MachineWentOn, EventsDone}
+use Rattle.gg_workers_pass.specs.inside.Seats.{Linked, MayStand}
 use Rattle.gg_workers_pass.specs.declared.machine_seats.MachineSeats.{MachineSeats}
 use Rattle.gg_workers_pass.proofs.AgainLemmas.{machine-stationed}
 use Rattle.gg_workers_pass.proofs.AllLemmas.{all-back, all-hold}
@@ -26,8 +26,8 @@ use Rattle.gg_workers_pass.proofs.NetLemmas.{closed-net}
 use Rattle.gg_workers_pass.proofs.LaterLemmas.{cycles-rise, serves-rise, puts-rise, takes-rise, latch-rises, fire-rises, serve-rises, finish-rises}
 use Rattle.gg_workers.specs.declared.worker.LinkedHost.{LinkedHost}
 use Rattle.gg_workers.specs.declared.host_seats.HostSeats.{HostSeats}
-use Rattle.gg_workers.specs.LinkedHosts.{DoneAt, AreLinkedHosts, AreNumbered}
-use Rattle.gg_workers.specs.Apart.{row_of, AllBack, IsOwned, AllOwned, AreSeats}
+use Rattle.gg_workers.specs.inside.LinkedHosts.{DoneAt, AreLinkedHosts, AreNumbered}
+use Rattle.gg_workers.specs.inside.Apart.{row_of, AllBack, IsOwned, AllOwned, AreSeats}
 use Rattle.gg_workers.specs.Work.{IsLater}
 
 module _ {H X S T : Type 0} (machines : H → List Machine) (takes_from : X → S → Type 0) (puts_into : X → T → Type 0) (taking : S → SeatState) (putting : T → SeatState) (flow : Flow) (net : Network) (stations : List Station) (links : List X) (upto : ℕ) (threads : List ℕ) (hosts : List (List Machine)) (placed : AreStationed hosts stations) (bs : List (LinkedHost H S T))

@@ -1,7 +1,7 @@
 -- A row of seats worked by hand: the seats of channels 2 and 0, out of three.
 use Rattle.std.proofs.Common.{◌≡◌, ℕ, zero, suc, ◌<◌, [], ◌∷◌, slice_index_or, refl, arith}
 use Rattle.gg_flat.specs.Line.{value_at}
-use Rattle.gg_workers.specs.HostSeats.{IsRowOf}
+use Rattle.gg_workers.specs.inside.HostSeats.{IsRowOf}
 
 each-place : (k a : ℕ) → k < 2 → slice_index_or (30 ∷ 10 ∷ []) k a ≡ slice_index_or (10 ∷ 20 ∷ 30 ∷ []) (value_at (2 ∷ 0 ∷ []) k) a
 each-place zero a lt = refl

@@ -3,10 +3,10 @@ ghost use Rattle.std.specs.Prelude.{◌≡◌, ◌≤◌, [], length, map};
 ghost use Rattle.std.specs.Vec.{vec_capacity};
 ghost use Rattle.gg_net.specs.Network.{frame_of};
 ghost use Rattle.gg_net.specs.Kept.{Kept};
-ghost use Rattle.gg_net.specs.Net.{AreListed};
-ghost use Rattle.gg_net.specs.Stations.{machines_by};
-ghost use Rattle.gg_workers_pass.specs.Seats.{TakeSeatOf, PutSeatOf};
-ghost use Rattle.gg_workers.specs.Apart.{row_of, consumer_in, producer_in, MachineBack, HostBack, IsOwned, AreOwned, AllOwned, AllBack};
+ghost use Rattle.gg_net.specs.inside.Net.{AreListed};
+ghost use Rattle.gg_net.specs.inside.Stations.{machines_by};
+ghost use Rattle.gg_workers_pass.specs.inside.Seats.{TakeSeatOf, PutSeatOf};
+ghost use Rattle.gg_workers.specs.inside.Apart.{row_of, consumer_in, producer_in, MachineBack, HostBack, IsOwned, AreOwned, AllOwned, AllBack};
 
 use crate::host_seats::HostSeats;
 use crate::worker::LinkedHost;

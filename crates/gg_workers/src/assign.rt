@@ -1,7 +1,7 @@
 //! Hosts are assigned to workers, and collected.
 ghost use Rattle.std.specs.Prelude.{◌≡◌, ℕ, ◌+◌, ◌<◌, ◌≤◌, List, [], ◌∷◌, ◌++◌, length, map, slice_index_or, Some};
 ghost use Rattle.std.specs.Vec.{vec_len, vec_capacity};
-ghost use Rattle.gg_workers.specs.Assigned.{Assigning, Collecting};
+ghost use Rattle.gg_workers.specs.inside.Assigned.{Assigning, Collecting};
 ghost use Rattle.gg_workers.specs.declared.worker.LinkedHost.{LinkedHost};
 
 use crate::worker::{LinkedHost, Worker};

@@ -3,11 +3,11 @@ ghost use Rattle.std.specs.Prelude.{◌≡◌, ◌≤◌, [], length, map, IfOk}
 ghost use Rattle.std.specs.Vec.{vec_capacity};
 ghost use Rattle.gg_net.specs.Network.{frame_of};
 ghost use Rattle.gg_net.specs.Kept.{Kept};
-ghost use Rattle.gg_net.specs.Net.{AreListed, AreParts, joined};
-ghost use Rattle.gg_net.specs.Stations.{machines_by};
-ghost use Rattle.gg_workers_pass.specs.Seats.{TakeSeatOf, PutSeatOf};
-ghost use Rattle.gg_workers.specs.Apart.{WereStationed, WasJoined, WereLinked, AreSeats, AreReturnLists};
-ghost use Rattle.gg_workers.specs.LinkedHosts.{DoneAt, AreLinkedHosts, AreNumbered};
+ghost use Rattle.gg_net.specs.inside.Net.{AreListed, AreParts, joined};
+ghost use Rattle.gg_net.specs.inside.Stations.{machines_by};
+ghost use Rattle.gg_workers_pass.specs.inside.Seats.{TakeSeatOf, PutSeatOf};
+ghost use Rattle.gg_workers.specs.inside.Apart.{WereStationed, WasJoined, WereLinked, AreSeats, AreReturnLists};
+ghost use Rattle.gg_workers.specs.inside.LinkedHosts.{DoneAt, AreLinkedHosts, AreNumbered};
 ghost use Rattle.gg_workers.specs.Work.{IsLater};
 
 use crate::apart::{return_all, separate};

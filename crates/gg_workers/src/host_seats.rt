@@ -3,11 +3,11 @@ ghost use Rattle.std.specs.Prelude.{◌≡◌, ℕ, ◌^◌, ◌<◌, ◌≤◌,
 ghost use Rattle.std.specs.Vec.{vec_capacity};
 ghost use Rattle.gg_net.specs.Network.{frame_of};
 ghost use Rattle.gg_net.specs.Kept.{IsWired};
-ghost use Rattle.gg_net.specs.Stations.{AreStationed};
-ghost use Rattle.gg_net.specs.Net.{AreListed};
-ghost use Rattle.gg_workers_pass.specs.SeatLists.{AreOnce, RowIsThere, RowTakenOut};
+ghost use Rattle.gg_net.specs.inside.Stations.{AreStationed};
+ghost use Rattle.gg_net.specs.inside.Net.{AreListed};
+ghost use Rattle.gg_workers_pass.specs.inside.SeatLists.{AreOnce, RowIsThere, RowTakenOut};
 ghost use Rattle.gg_workers_pass.specs.declared.machine_seats.MachineSeats.{MachineSeats};
-ghost use Rattle.gg_workers.specs.HostSeats.{IsEmptyFor, IsFilledFor, HasPlaces, EachMachine};
+ghost use Rattle.gg_workers.specs.inside.HostSeats.{IsEmptyFor, IsFilledFor, HasPlaces, EachMachine};
 
 use gg_net::Station;
 use gg_node::Host;

@@ -6,7 +6,7 @@ ghost use Rattle.gg_net.specs.Network.{Network};
 ghost use Rattle.gg_net.specs.Kept.{Kept};
 ghost use Rattle.gg_net.specs.markings.Steps.{Steps};
 ghost use Rattle.gg_workers.specs.Work.{IsLater};
-ghost use Rattle.gg_workers.specs.LaterLaws.{FallsByReady};
+ghost use Rattle.gg_workers.specs.inside.LaterLaws.{FallsByReady};
 
 /// Steps lead from a network to the one that comes back from workers. The measure has fallen by at least the number of
 /// the events that could be done, of machines below `upto`.

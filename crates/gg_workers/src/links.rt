@@ -3,8 +3,8 @@ ghost use Rattle.std.specs.Prelude.{◌≡◌, ℕ, ◌<◌, ◌≤◌, [], leng
 ghost use Rattle.std.specs.Vec.{vec_capacity};
 ghost use Rattle.gg_flat.specs.Line.{value_at};
 ghost use Rattle.gg_net.specs.Network.{takes};
-ghost use Rattle.gg_net.specs.Net.{AreParts, joined};
-ghost use Rattle.gg_workers_pass.specs.Seats.{Linked, AreNew};
+ghost use Rattle.gg_net.specs.inside.Net.{AreParts, joined};
+ghost use Rattle.gg_workers_pass.specs.inside.Seats.{Linked, AreNew};
 
 use gg_flat::Streams;
 use gg_link::Link;

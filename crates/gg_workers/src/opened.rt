@@ -4,12 +4,12 @@ ghost use Rattle.std.specs.Vec.{vec_capacity};
 ghost use Rattle.gg_flat.specs.Line.{value_at};
 ghost use Rattle.gg_net.specs.Network.{takes, frame_of};
 ghost use Rattle.gg_net.specs.Kept.{Kept};
-ghost use Rattle.gg_net.specs.Net.{AreListed, AreParts, joined};
-ghost use Rattle.gg_net.specs.Stations.{machines_by, AreStationed};
-ghost use Rattle.gg_workers_pass.specs.Seats.{Linked, AreNew};
-ghost use Rattle.gg_workers.specs.Apart.{WasJoined, AreReturnLists};
-ghost use Rattle.gg_workers.specs.Making.{IsReserved};
-ghost use Rattle.gg_workers.specs.Opened.{IsOpened};
+ghost use Rattle.gg_net.specs.inside.Net.{AreListed, AreParts, joined};
+ghost use Rattle.gg_net.specs.inside.Stations.{machines_by, AreStationed};
+ghost use Rattle.gg_workers_pass.specs.inside.Seats.{Linked, AreNew};
+ghost use Rattle.gg_workers.specs.inside.Apart.{WasJoined, AreReturnLists};
+ghost use Rattle.gg_workers.specs.inside.Making.{IsReserved};
+ghost use Rattle.gg_workers.specs.inside.Opened.{IsOpened};
 
 use crate::back::{ReturnLists, new_return_lists};
 use crate::links::open_links;

@@ -2,8 +2,8 @@
 ghost use Rattle.std.specs.Prelude.{◌≡◌, ℕ, ◌<◌, ◌≤◌, length, map, IfOk, IfErr, Ok};
 ghost use Rattle.gg_flat.specs.Line.{value_at};
 ghost use Rattle.gg_net.specs.Network.{takes};
-ghost use Rattle.gg_net.specs.Net.{AreParts, joined};
-ghost use Rattle.gg_workers.specs.Opened.{IsOpened};
+ghost use Rattle.gg_net.specs.inside.Net.{AreParts, joined};
+ghost use Rattle.gg_workers.specs.inside.Opened.{IsOpened};
 ghost use Rattle.gg_workers.specs.Work.{IsLater};
 
 use crate::back::close_hosts;

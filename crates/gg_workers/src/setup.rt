@@ -3,12 +3,12 @@ ghost use Rattle.std.specs.Prelude.{◌≡◌, ℕ, ◌^◌, ◌<◌, ◌≤◌,
 ghost use Rattle.std.specs.Vec.{vec_capacity};
 ghost use Rattle.gg_net.specs.Network.{frame_of};
 ghost use Rattle.gg_net.specs.Kept.{Kept};
-ghost use Rattle.gg_net.specs.Net.{AreListed};
-ghost use Rattle.gg_net.specs.Stations.{machines_by, AreStationed};
-ghost use Rattle.gg_workers_pass.specs.Seats.{Linked, AreNew};
-ghost use Rattle.gg_workers.specs.LinkedHosts.{ReadyAt, AreLinkedHosts, AreNumbered};
-ghost use Rattle.gg_workers.specs.Assigned.{Assigning};
-ghost use Rattle.gg_workers.specs.Making.{AreIdle, HaveTheirSeats, IsReserved};
+ghost use Rattle.gg_net.specs.inside.Net.{AreListed};
+ghost use Rattle.gg_net.specs.inside.Stations.{machines_by, AreStationed};
+ghost use Rattle.gg_workers_pass.specs.inside.Seats.{Linked, AreNew};
+ghost use Rattle.gg_workers.specs.inside.LinkedHosts.{ReadyAt, AreLinkedHosts, AreNumbered};
+ghost use Rattle.gg_workers.specs.inside.Assigned.{Assigning};
+ghost use Rattle.gg_workers.specs.inside.Making.{AreIdle, HaveTheirSeats, IsReserved};
 
 use crate::host_seats::{HostSeats, fill_all, reserve_seats};
 use crate::worker::{LinkedHost, Worker};

@@ -2,10 +2,10 @@
 ghost use Rattle.std.specs.Prelude.{◌≡◌, ℕ, ◌<◌, ◌≤◌, length, map, slice_index_or, All};
 ghost use Rattle.gg_net.specs.Network.{frame_of};
 ghost use Rattle.gg_net.specs.Kept.{Kept};
-ghost use Rattle.gg_net.specs.Net.{AreListed};
-ghost use Rattle.gg_workers.specs.LinkedHosts.{ReadyAt, DoneAt, AreLinkedHosts, AreNumbered};
-ghost use Rattle.gg_workers.specs.Assigned.{Assigning};
-ghost use Rattle.gg_workers.specs.Turns.{Falls};
+ghost use Rattle.gg_net.specs.inside.Net.{AreListed};
+ghost use Rattle.gg_workers.specs.inside.LinkedHosts.{ReadyAt, DoneAt, AreLinkedHosts, AreNumbered};
+ghost use Rattle.gg_workers.specs.inside.Assigned.{Assigning};
+ghost use Rattle.gg_workers.specs.inside.Turns.{Falls};
 
 use crate::assign::{assign_hosts, collect_hosts};
 use crate::turns::run_worker;

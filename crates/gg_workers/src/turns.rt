@@ -3,9 +3,9 @@ ghost use Rattle.std.specs.Prelude.{◌≡◌, ◌↔◌, ◌⊎◌, ℕ, ◌+�
 ghost use Rattle.gg_node.specs.Machine.{machine_at};
 ghost use Rattle.gg_net.specs.Network.{frame_of};
 ghost use Rattle.gg_net.specs.Kept.{Kept};
-ghost use Rattle.gg_net.specs.Net.{AreListed};
-ghost use Rattle.gg_workers.specs.LinkedHosts.{ReadyAt, DoneAt, EachThread, IsLinkedHost, AreLinkedHosts, AllEnded};
-ghost use Rattle.gg_workers.specs.Turns.{Falls, host_steps, steps_of, machines_in, StepsTold};
+ghost use Rattle.gg_net.specs.inside.Net.{AreListed};
+ghost use Rattle.gg_workers.specs.inside.LinkedHosts.{ReadyAt, DoneAt, EachThread, IsLinkedHost, AreLinkedHosts, AllEnded};
+ghost use Rattle.gg_workers.specs.inside.Turns.{Falls, host_steps, steps_of, machines_in, StepsTold};
 
 use crate::worker::LinkedHost;
 use gg_flat::Streams;

@@ -10,12 +10,12 @@ use Rattle.gg_node.specs.Machine.{Machine, no_machine, machine_at}
 use Rattle.gg_net.specs.declared.shape.Station.{Station}
 use Rattle.gg_net.specs.Network.{Network, kind_at, Frame, frame_of}
 use Rattle.gg_net.specs.Kept.{MachineAt}
-use Rattle.gg_net.specs.Parted.{takes_by, enters_by}
-use Rattle.gg_net.specs.Queue.{Held}
-use Rattle.gg_net.specs.Stations.{stationed, machines_by}
-use Rattle.gg_net.specs.Net.{IsListed}
-use Rattle.gg_workers_pass.specs.Seats.{SeatCounts, TakeSeatOf, PutSeatOf, Linked}
-use Rattle.gg_workers_pass.specs.Pass.{HasSeats}
+use Rattle.gg_net.specs.inside.Parted.{takes_by, enters_by}
+use Rattle.gg_net.specs.inside.Queue.{Held}
+use Rattle.gg_net.specs.inside.Stations.{stationed, machines_by}
+use Rattle.gg_net.specs.inside.Net.{IsListed}
+use Rattle.gg_workers_pass.specs.inside.Seats.{SeatCounts, TakeSeatOf, PutSeatOf, Linked}
+use Rattle.gg_workers_pass.specs.inside.Pass.{HasSeats}
 
 module _ {X S T : Type 0} (takes_from : X → S → Type 0) (puts_into : X → T → Type 0) (taking : S → SeatState) (putting : T → SeatState) (flow : Flow) (net : Network) (machines : List Machine) (links : List X) where
   abbrev frame : Frame

@@ -8,9 +8,9 @@ use Rattle.gg_flat.specs.Line.{value_at}
 use Rattle.gg_net.specs.declared.shape.Station.{Station}
 use Rattle.gg_net.specs.Network.{wire_at, IsAtIn, IsAtOut, kind_at, Frame}
 use Rattle.gg_net.specs.Kept.{IsWired}
-use Rattle.gg_net.specs.Net.{IsListed}
+use Rattle.gg_net.specs.inside.Net.{IsListed}
 use Rattle.gg_net.proofs.WireLemmas.{one-in, one-out}
-use Rattle.gg_workers_pass.specs.SeatLists.{seat_at, AreOnce, RowIsThere, AllThere, RowTakenOut, RowPutBack, AreLeft, IsBack, AreBack}
+use Rattle.gg_workers_pass.specs.inside.SeatLists.{seat_at, AreOnce, RowIsThere, AllThere, RowTakenOut, RowPutBack, AreLeft, IsBack, AreBack}
 
 -- ---- the channels of one machine
 

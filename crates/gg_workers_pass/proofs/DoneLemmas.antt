@@ -8,8 +8,8 @@ use Rattle.gg_flat.specs.State.{State}
 use Rattle.gg_link.specs.Seats.{SeatState}
 use Rattle.gg_node.specs.Machine.{Machine, no_machine, machine_at, latch_at, flag_at}
 use Rattle.gg_node.specs.Step.{with_latch, with_flag, with_served, finished}
-use Rattle.gg_workers_pass.specs.Tries.{LatchTried, FireTried, ServeTried, FinishTried}
-use Rattle.gg_workers_pass.specs.Rows.{steps_by, StepsDone}
+use Rattle.gg_workers_pass.specs.inside.Tries.{LatchTried, FireTried, ServeTried, FinishTried}
+use Rattle.gg_workers_pass.specs.inside.Rows.{steps_by, StepsDone}
 
 -- ---- one step
 

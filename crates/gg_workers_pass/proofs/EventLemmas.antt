@@ -11,10 +11,11 @@ use Rattle.gg_net.specs.Step.{facts_of}
 use Rattle.gg_net.proofs.RowLemmas.{latch-goes, fire-goes}
 use Rattle.gg_net.proofs.TableLemmas.{latch-can, fire-can, serve-can, finish-can}
 use Rattle.gg_net.specs.Kept.{Kept}
-use Rattle.gg_net.specs.Net.{IsListed}
-use Rattle.gg_net.specs.Parted.{takes_by}
-use Rattle.gg_workers_pass.specs.Tries.{StandsBelow, ServeIsDue, FinishIsDue}
-use Rattle.gg_workers_pass.specs.Pass.{puts_by, serves_by, MachineWentOn, HasSeats, HasNewSeats, KnownDone, EventsDone}
+use Rattle.gg_net.specs.inside.Net.{IsListed}
+use Rattle.gg_net.specs.inside.Parted.{takes_by}
+use Rattle.gg_workers_pass.specs.Tries.{StandsBelow}
+use Rattle.gg_workers_pass.specs.inside.Tries.{ServeIsDue, FinishIsDue}
+use Rattle.gg_workers_pass.specs.inside.Pass.{puts_by, serves_by, MachineWentOn, HasSeats, HasNewSeats, KnownDone, EventsDone}
 use Rattle.gg_workers_pass.proofs.AllLemmas.{in-listed, out-listed}
 
 -- some element of a list that has one

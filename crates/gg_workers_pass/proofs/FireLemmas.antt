@@ -9,15 +9,16 @@ use Rattle.gg_flat.specs.Streams.{Flow}
 use Rattle.gg_link.specs.Seats.{SeatState, SeatWentOn, Counted}
 use Rattle.gg_node.specs.Machine.{Machine, no_machine, machine_at, flag_at, missing}
 use Rattle.gg_node.specs.Token.{IsToken}
-use Rattle.gg_node.specs.Step.{MayFire, with_flag}
+use Rattle.gg_node.specs.inside.Step.{MayFire}
+use Rattle.gg_node.specs.Step.{with_flag}
 use Rattle.gg_net.specs.Network.{Network, wire_at, IsAtOut, and_one, entered_by, takes, kind_of, frame_of}
 use Rattle.gg_net.specs.Kept.{list_at, MachineAt, Kept}
-use Rattle.gg_net.specs.Parted.{enters_by}
+use Rattle.gg_net.specs.inside.Parted.{enters_by}
 use Rattle.gg_net.proofs.MachineLemmas.{own_fire, token_is}
 use Rattle.gg_net.proofs.PartLemmas.{own-may-fire, enters-short, enters-fire, enters-fire-other}
-use Rattle.gg_workers_pass.specs.Seats.{SeatCounts}
-use Rattle.gg_workers_pass.specs.Tries.{FireTried}
-use Rattle.gg_workers_pass.specs.Rows.{SeatsByPlace, with_flags, FiresTried, AreOuts}
+use Rattle.gg_workers_pass.specs.inside.Seats.{SeatCounts}
+use Rattle.gg_workers_pass.specs.inside.Tries.{FireTried}
+use Rattle.gg_workers_pass.specs.inside.Rows.{SeatsByPlace, with_flags, FiresTried, AreOuts}
 use Rattle.gg_workers_pass.proofs.RowLemmas.{set-cases, placed-set, alone-more}
 
 -- a flag that stands, stays

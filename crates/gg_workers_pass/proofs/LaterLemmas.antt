@@ -9,7 +9,8 @@ use Rattle.gg_net.specs.Step.{Ready}
 use Rattle.gg_net.proofs.TableLemmas.{latch-can, fire-can, serve-can, finish-can}
 use Rattle.gg_net.proofs.MayLemmas.{consumer-there, producer-there}
 use Rattle.gg_workers_pass.specs.Tries.{StandsBelow}
-use Rattle.gg_workers_pass.specs.Pass.{RisesTo, MachineWentOn, EventsDone}
+use Rattle.gg_workers_pass.specs.Pass.{RisesTo}
+use Rattle.gg_workers_pass.specs.inside.Pass.{MachineWentOn, EventsDone}
 
 module _ (flow : Flow) (old : Network) (kept : Kept flow old) (upto : ℕ) (machines : List Machine) (queues : List (List ℕ)) where
   -- the network with these machines and queues

@@ -12,14 +12,14 @@ use Rattle.gg_net.specs.declared.shape.Wire.{Wire}
 use Rattle.gg_net.specs.declared.shape.Station.{Station}
 use Rattle.gg_net.specs.Network.{Network, wire_at, queue_at, takes, entered, kind_at, Frame, frame_of}
 use Rattle.gg_net.specs.Kept.{list_at, BetweenAt, MachineAt}
-use Rattle.gg_net.specs.Parted.{takes_by, enters_by}
-use Rattle.gg_net.specs.Queue.{Held}
-use Rattle.gg_net.specs.Stations.{hosted, machines_by}
-use Rattle.gg_net.specs.Net.{net_of, held_at, IsListed, IsNet}
+use Rattle.gg_net.specs.inside.Parted.{takes_by, enters_by}
+use Rattle.gg_net.specs.inside.Queue.{Held}
+use Rattle.gg_net.specs.inside.Stations.{hosted, machines_by}
+use Rattle.gg_net.specs.inside.Net.{net_of, held_at, IsListed, IsNet}
 use Rattle.gg_net.proofs.CountLemmas.{between-once}
 use Rattle.gg_net.proofs.PartLemmas.{is-rejoined}
-use Rattle.gg_workers_pass.specs.Seats.{SeatCounts, LinkSeats, Linked}
-use Rattle.gg_workers_pass.specs.Rows.{SeatsByPlace}
+use Rattle.gg_workers_pass.specs.inside.Seats.{SeatCounts, LinkSeats, Linked}
+use Rattle.gg_workers_pass.specs.inside.Rows.{SeatsByPlace}
 use Rattle.gg_workers_pass.proofs.EventLemmas.{some-of}
 
 -- ---- queues

@@ -6,24 +6,26 @@ use Rattle.gg_flat.specs.Line.{value_at}
 use Rattle.gg_flat.specs.State.{State}
 use Rattle.gg_flat.specs.Streams.{Flow}
 use Rattle.gg_link.specs.Seats.{SeatState}
-use Rattle.gg_node.specs.Machine.{Port, Machine, no_machine, machine_at, latch_at, flag_at, needs_at, first_empty, missing, due, port_number}
+use Rattle.gg_node.specs.Machine.{Port, Machine, no_machine, machine_at, latch_at, flag_at, needs_at, first_empty, missing}
+use Rattle.gg_node.specs.inside.Machine.{due, port_number}
 use Rattle.gg_node.specs.Token.{IsNextState}
 use Rattle.gg_node.specs.Step.{AllFired, finished}
 use Rattle.gg_net.specs.declared.shape.Station.{Station}
 use Rattle.gg_net.specs.Network.{Network, wire_at, Kind, kind_of, kind_at, Frame, frame_of}
-use Rattle.gg_net.specs.Readings.{fields_at, due_fields}
+use Rattle.gg_net.specs.inside.Readings.{fields_at, due_fields}
 use Rattle.gg_net.specs.Kept.{MachineAt, Kept}
-use Rattle.gg_net.specs.Net.{IsListed}
-use Rattle.gg_net.specs.Parted.{takes_by, enters_by}
+use Rattle.gg_net.specs.inside.Net.{IsListed}
+use Rattle.gg_net.specs.inside.Parted.{takes_by, enters_by}
 use Rattle.gg_net.proofs.PortLemmas.{any_port}
 use Rattle.gg_net.proofs.LatchLemmas.{all-filled, none-empty}
 use Rattle.gg_net.proofs.StepLemmas.{all-served}
 use Rattle.gg_net.proofs.MachineLemmas.{own_finish}
 use Rattle.gg_net.proofs.PartLemmas.{takes-finish, enters-finish}
-use Rattle.gg_workers_pass.specs.Seats.{SeatCounts}
-use Rattle.gg_workers_pass.specs.Tries.{StandsBelow, ServeIsDue, FinishIsDue, FinishTried}
-use Rattle.gg_workers_pass.specs.Rows.{SeatsByPlace, AreIns, AreOuts, LatchesTried, FiresTried, ServesTried, NoneServes}
-use Rattle.gg_workers_pass.specs.Pass.{puts_by, serves_by, MachineWentOn, HasSeats, KnownDone}
+use Rattle.gg_workers_pass.specs.inside.Seats.{SeatCounts}
+use Rattle.gg_workers_pass.specs.Tries.{StandsBelow}
+use Rattle.gg_workers_pass.specs.inside.Tries.{ServeIsDue, FinishIsDue, FinishTried}
+use Rattle.gg_workers_pass.specs.inside.Rows.{SeatsByPlace, AreIns, AreOuts, LatchesTried, FiresTried, ServesTried, NoneServes}
+use Rattle.gg_workers_pass.specs.inside.Pass.{puts_by, serves_by, MachineWentOn, HasSeats, KnownDone}
 use Rattle.gg_workers_pass.proofs.WentLemmas.{enters-puts, went-further, went-latches, went-fires, went-serves, went-finish, went-nowhere}
 
 -- ---- what stays possible while tokens are latched and given

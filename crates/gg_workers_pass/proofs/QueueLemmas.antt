@@ -10,9 +10,9 @@ use Rattle.gg_flat.specs.Streams.{Flow}
 use Rattle.gg_link.specs.Seats.{SeatState, between, WithinCapacity}
 use Rattle.gg_net.specs.Network.{Network, wire_at, takes}
 use Rattle.gg_net.specs.Kept.{list_at, BetweenAt}
-use Rattle.gg_net.specs.Queue.{Held, held_of}
-use Rattle.gg_net.specs.Net.{held_at}
-use Rattle.gg_workers_pass.specs.Seats.{SeatCounts, with_tokens}
+use Rattle.gg_net.specs.inside.Queue.{Held, held_of}
+use Rattle.gg_net.specs.inside.Net.{held_at}
+use Rattle.gg_workers_pass.specs.inside.Seats.{SeatCounts, with_tokens}
 
 abbrev no_tokens : Held
 no_tokens = record { tokens = []; room = 0 }

@@ -8,16 +8,17 @@ use Rattle.gg_flat.specs.Line.{value_at}
 use Rattle.gg_flat.specs.Streams.{Flow}
 use Rattle.gg_link.specs.Seats.{SeatState, SeatWentOn, Counted}
 use Rattle.gg_node.specs.Machine.{Machine, no_machine, machine_at, latch_at}
-use Rattle.gg_node.specs.Step.{MayLatch, with_latch}
+use Rattle.gg_node.specs.inside.Step.{MayLatch}
+use Rattle.gg_node.specs.Step.{with_latch}
 use Rattle.gg_net.specs.Network.{Network, wire_at, IsAtIn, got_by, takes, kind_of, frame_of}
 use Rattle.gg_net.specs.Kept.{list_at, MachineAt, Kept}
-use Rattle.gg_net.specs.Parted.{takes_by}
+use Rattle.gg_net.specs.inside.Parted.{takes_by}
 use Rattle.gg_net.proofs.LatchLemmas.{latch-grows}
 use Rattle.gg_net.proofs.MachineLemmas.{own_latch}
 use Rattle.gg_net.proofs.PartLemmas.{own-may-latch, takes-latch, takes-latch-other}
-use Rattle.gg_workers_pass.specs.Seats.{SeatCounts}
-use Rattle.gg_workers_pass.specs.Tries.{LatchTried}
-use Rattle.gg_workers_pass.specs.Rows.{SeatsByPlace, with_latches, LatchesTried, AreIns}
+use Rattle.gg_workers_pass.specs.inside.Seats.{SeatCounts}
+use Rattle.gg_workers_pass.specs.inside.Tries.{LatchTried}
+use Rattle.gg_workers_pass.specs.inside.Rows.{SeatsByPlace, with_latches, LatchesTried, AreIns}
 
 -- a fact about each place, once one was written
 pub set-cases : {S : Type 0} (P : ℕ → S → Type 0) (seats : List S) (n : ℕ) (q : S) → n < length seats → (k : ℕ) (s : S) → (k ≡ n → P n q) → (k ≢ n → P k (slice_index_or seats k s)) → P k (slice_index_or (slice_set seats n q) k s)

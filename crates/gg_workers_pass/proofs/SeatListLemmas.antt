@@ -4,7 +4,7 @@ use Rattle.std.specs.Prelude.{IsSome, slice_set}
 use Rattle.std.proofs.lemmas.Bool.{cases_eq}
 use Rattle.std.proofs.lemmas.List.{length-append, length-set, get_or_append_left, get_or_at}
 use Rattle.gg_flat.specs.Line.{value_at}
-use Rattle.gg_workers_pass.specs.SeatLists.{seat_at, AreOnce, RowIsThere, RowTakenOut, RowPutBack}
+use Rattle.gg_workers_pass.specs.inside.SeatLists.{seat_at, AreOnce, RowIsThere, RowTakenOut, RowPutBack}
 
 -- a seat that is there is within the list
 pub seat-within : {S : Type 0} (seats : List (Option S)) (c : ℕ) → IsSome (seat_at seats c) → c < length seats

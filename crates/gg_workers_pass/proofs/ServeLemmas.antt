@@ -4,16 +4,17 @@ use Rattle.std.specs.Prelude.{All, slice_set}
 use Rattle.std.proofs.lemmas.List.{get_or-map, length-map}
 use Rattle.gg_flat.specs.Streams.{Flow}
 use Rattle.gg_node.specs.Machine.{Machine, no_machine, machine_at}
-use Rattle.gg_node.specs.Step.{MayServe, MayFinish, fields_of, with_served, finished}
+use Rattle.gg_node.specs.inside.Step.{MayServe, MayFinish}
+use Rattle.gg_node.specs.Step.{fields_of, with_served, finished}
 use Rattle.gg_net.specs.declared.shape.ServedPort.{ServedPort}
 use Rattle.gg_net.specs.Network.{Network, Kind, kind_of, Frame, frame_of}
 use Rattle.gg_net.specs.Kept.{IsSound, MachineAt, Kept}
-use Rattle.gg_net.specs.Net.{entry_of}
+use Rattle.gg_net.specs.inside.Net.{entry_of}
 use Rattle.gg_net.proofs.PortLemmas.{any_port}
 use Rattle.gg_net.proofs.MachineLemmas.{own_serve}
 use Rattle.gg_net.proofs.PartLemmas.{own-may-serve, own-may-finish}
-use Rattle.gg_workers_pass.specs.Tries.{ServeIsDue, ServeTried, FinishIsDue, FinishTried}
-use Rattle.gg_workers_pass.specs.Rows.{with_serves, ServesTried}
+use Rattle.gg_workers_pass.specs.inside.Tries.{ServeIsDue, ServeTried, FinishIsDue, FinishTried}
+use Rattle.gg_workers_pass.specs.inside.Rows.{with_serves, ServesTried}
 use Rattle.gg_workers_pass.proofs.RowLemmas.{alone-more}
 
 -- the fields of the ports of a machine are ins that it has

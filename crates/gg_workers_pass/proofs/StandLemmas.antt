@@ -10,12 +10,12 @@ use Rattle.gg_link.specs.Seats.{SeatState, Starts, stream_of, between, WithinCap
 use Rattle.gg_net.specs.declared.shape.Wire.{Wire}
 use Rattle.gg_net.specs.Network.{Network, wire_at, queue_at, takes, entered, kind_of, frame_of}
 use Rattle.gg_net.specs.Kept.{list_at, BetweenAt, Kept}
-use Rattle.gg_net.specs.Parted.{takes_by, enters_by}
-use Rattle.gg_net.specs.Queue.{Held}
-use Rattle.gg_net.specs.Net.{held_at, HasRoom}
+use Rattle.gg_net.specs.inside.Parted.{takes_by, enters_by}
+use Rattle.gg_net.specs.inside.Queue.{Held}
+use Rattle.gg_net.specs.inside.Net.{held_at, HasRoom}
 use Rattle.gg_net.proofs.MayLemmas.{producer-there}
 use Rattle.gg_net.proofs.PartLemmas.{enters-short}
-use Rattle.gg_workers_pass.specs.Seats.{with_tokens, emptied, MayStand, LinkSeats, Linked, AreNew}
+use Rattle.gg_workers_pass.specs.inside.Seats.{with_tokens, emptied, MayStand, LinkSeats, Linked, AreNew}
 use Rattle.gg_workers_pass.proofs.QueueLemmas.{between-seats}
 
 abbrev no_tokens : Held

@@ -5,16 +5,18 @@ use Rattle.std.proofs.Math.Nat.{mul-suc, mul-le-mul_left}
 use Rattle.gg_flat.specs.State.{State}
 use Rattle.gg_flat.specs.Streams.{Flow}
 use Rattle.gg_node.specs.Machine.{Port, Machine, latch_at, flag_at}
-use Rattle.gg_node.specs.Step.{AllFired, AllLatched, finished}
+use Rattle.gg_node.specs.Step.{AllFired, finished}
+use Rattle.gg_node.specs.inside.Step.{AllLatched}
 use Rattle.gg_net.specs.Network.{wire_at, and_one, got_by, entered_by, Kind, kind_of, Frame}
 use Rattle.gg_net.specs.Kept.{IsSound, MachineAt}
-use Rattle.gg_net.specs.Parted.{takes_by}
+use Rattle.gg_net.specs.inside.Parted.{takes_by}
 use Rattle.gg_net.proofs.StepLemmas.{clear-after}
 use Rattle.gg_net.proofs.MachineLemmas.{out-within}
 use Rattle.gg_net.proofs.PartLemmas.{takes-finish}
 use Rattle.gg_workers_pass.specs.Tries.{StandsBelow}
-use Rattle.gg_workers_pass.specs.Rows.{with_latches, with_flags, with_serves}
-use Rattle.gg_workers_pass.specs.Pass.{puts_by, serves_by, RisesTo, MachineWentOn}
+use Rattle.gg_workers_pass.specs.inside.Rows.{with_latches, with_flags, with_serves}
+use Rattle.gg_workers_pass.specs.inside.Pass.{puts_by, serves_by, MachineWentOn}
+use Rattle.gg_workers_pass.specs.Pass.{RisesTo}
 
 -- ---- one count
 

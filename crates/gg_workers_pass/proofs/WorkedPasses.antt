@@ -7,11 +7,12 @@ use Rattle.gg_flat.specs.Streams.{Flow}
 use Rattle.gg_link.specs.Seats.{seat_state}
 use Rattle.gg_node.specs.Machine.{Machine, source_machine, tray_machine}
 use Rattle.gg_net.specs.Network.{Network, wire_at, Frame, frame_of}
-use Rattle.gg_net.specs.Parted.{takes_by}
-use Rattle.gg_workers_pass.specs.Seats.{SeatCounts}
-use Rattle.gg_workers_pass.specs.Rows.{steps_by, StepsDone}
-use Rattle.gg_workers_pass.specs.Pass.{RisesTo, MachineWentOn}
-use Rattle.gg_workers_pass.specs.SeatLists.{seat_at, RowTakenOut}
+use Rattle.gg_net.specs.inside.Parted.{takes_by}
+use Rattle.gg_workers_pass.specs.inside.Seats.{SeatCounts}
+use Rattle.gg_workers_pass.specs.inside.Rows.{steps_by, StepsDone}
+use Rattle.gg_workers_pass.specs.Pass.{RisesTo}
+use Rattle.gg_workers_pass.specs.inside.Pass.{MachineWentOn}
+use Rattle.gg_workers_pass.specs.inside.SeatLists.{seat_at, RowTakenOut}
 
 -- ---- counts
 

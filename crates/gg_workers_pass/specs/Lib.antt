@@ -1,5 +1,3 @@
-pub mod Seats
 pub mod Tries
-pub mod Rows
 pub mod Pass
-pub mod SeatLists
+pub mod inside

@@ -2,9 +2,9 @@
 ghost use Rattle.std.specs.Prelude.{◌≡◌, ◌<◌, ◌≤◌, [], length, map, slice_set};
 ghost use Rattle.gg_link.specs.Seats.{between, WithinCapacity};
 ghost use Rattle.gg_net.specs.Kept.{Kept};
-ghost use Rattle.gg_net.specs.Net.{held_at};
-ghost use Rattle.gg_net.specs.Stations.{machines_by};
-ghost use Rattle.gg_workers_pass.specs.Seats.{Linked, MayStand, with_tokens};
+ghost use Rattle.gg_net.specs.inside.Net.{held_at};
+ghost use Rattle.gg_net.specs.inside.Stations.{machines_by};
+ghost use Rattle.gg_workers_pass.specs.inside.Seats.{Linked, MayStand, with_tokens};
 
 use crate::era::Era;
 use gg_flat::Streams;

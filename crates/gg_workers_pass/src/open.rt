@@ -6,8 +6,8 @@ ghost use Rattle.gg_flat.specs.Line.{value_at};
 ghost use Rattle.gg_link.specs.Seats.{Starts, stream_of, stream_limit};
 ghost use Rattle.gg_net.specs.Network.{takes};
 ghost use Rattle.gg_net.specs.Kept.{list_at, BetweenAt, Kept};
-ghost use Rattle.gg_net.specs.Net.{held_at};
-ghost use Rattle.gg_workers_pass.specs.Seats.{emptied, Linked, AreNew};
+ghost use Rattle.gg_net.specs.inside.Net.{held_at};
+ghost use Rattle.gg_workers_pass.specs.inside.Seats.{emptied, Linked, AreNew};
 
 use crate::era::Era;
 use gg_flat::Streams;

@@ -3,9 +3,9 @@ ghost use Rattle.std.specs.Prelude.{◌≡◌, ℕ, ◌<◌, ◌≤◌, length, 
 ghost use Rattle.gg_node.specs.Machine.{machine_at};
 ghost use Rattle.gg_net.specs.Network.{frame_of, kind_at};
 ghost use Rattle.gg_net.specs.Kept.{Kept};
-ghost use Rattle.gg_net.specs.Net.{IsListed};
-ghost use Rattle.gg_workers_pass.specs.Rows.{StepsDone};
-ghost use Rattle.gg_workers_pass.specs.Pass.{MachineWentOn, HasSeatsAt, KnownDoneAt, DoneAtFirst};
+ghost use Rattle.gg_net.specs.inside.Net.{IsListed};
+ghost use Rattle.gg_workers_pass.specs.inside.Rows.{StepsDone};
+ghost use Rattle.gg_workers_pass.specs.inside.Pass.{MachineWentOn, HasSeatsAt, KnownDoneAt, DoneAtFirst};
 
 use crate::era::Era;
 use crate::machine_seats::MachineSeats;

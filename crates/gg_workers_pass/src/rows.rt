@@ -2,10 +2,10 @@
 ghost use Rattle.std.specs.Prelude.{◌≡◌, ℕ, ◌^◌, ◌<◌, ◌≤◌, length, map, slice_set};
 ghost use Rattle.gg_node.specs.Machine.{machine_at};
 ghost use Rattle.gg_net.specs.Network.{frame_of};
-ghost use Rattle.gg_net.specs.Net.{entry_of};
+ghost use Rattle.gg_net.specs.inside.Net.{entry_of};
 ghost use Rattle.gg_net.specs.Kept.{MachineAt, Kept};
-ghost use Rattle.gg_net.specs.Parted.{takes_by, enters_by};
-ghost use Rattle.gg_workers_pass.specs.Rows.{SeatsByPlace, LatchesTried, AreIns, FiresTried, AreOuts, ServesTried, NoneServes, StepsDone};
+ghost use Rattle.gg_net.specs.inside.Parted.{takes_by, enters_by};
+ghost use Rattle.gg_workers_pass.specs.inside.Rows.{SeatsByPlace, LatchesTried, AreIns, FiresTried, AreOuts, ServesTried, NoneServes, StepsDone};
 
 use crate::era::Era;
 use crate::tries::{try_fire, try_latch, try_serve};

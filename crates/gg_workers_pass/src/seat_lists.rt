@@ -2,7 +2,7 @@
 ghost use Rattle.std.specs.Prelude.{◌≡◌, ℕ, ◌<◌, ◌≤◌, [], length, map, Some};
 ghost use Rattle.std.specs.Vec.{vec_capacity};
 ghost use Rattle.gg_flat.specs.Line.{value_at};
-ghost use Rattle.gg_workers_pass.specs.SeatLists.{AreOnce, AllThere, RowIsThere, RowTakenOut, RowPutBack};
+ghost use Rattle.gg_workers_pass.specs.inside.SeatLists.{AreOnce, AllThere, RowIsThere, RowTakenOut, RowPutBack};
 
 /// Moves the seats into a list from which each can be taken by its number.
 pub fn wrap_all<S: Drop>(seats: Vec<S>, into: &mut Vec<Option<S>>)

@@ -1,11 +1,12 @@
 //! One try of each event of one machine, at a thread of its host. The machine is below the cycle up to which machines are
 //! stepped: that is asked once a pass. What is answered at once is asked first.
 ghost use Rattle.std.specs.Prelude.{◌≡◌, ℕ, ◌<◌, All, length, map, slice_get, Some, None, false};
-ghost use Rattle.gg_node.specs.Machine.{machine_at, latch_at, flag_at, missing, due};
+ghost use Rattle.gg_node.specs.Machine.{machine_at, latch_at, flag_at, missing};
+ghost use Rattle.gg_node.specs.inside.Machine.{due};
 ghost use Rattle.gg_node.specs.Token.{IsToken};
-ghost use Rattle.gg_node.specs.Step.{MayLatch, MayFire, MayServe, MayFinish};
-ghost use Rattle.gg_net.specs.Net.{entry_of};
-ghost use Rattle.gg_workers_pass.specs.Tries.{LatchTried, FireTried, ServeIsDue, ServeTried, FinishIsDue, FinishTried};
+ghost use Rattle.gg_node.specs.inside.Step.{MayLatch, MayFire, MayServe, MayFinish};
+ghost use Rattle.gg_net.specs.inside.Net.{entry_of};
+ghost use Rattle.gg_workers_pass.specs.inside.Tries.{LatchTried, FireTried, ServeIsDue, ServeTried, FinishIsDue, FinishTried};
 
 use gg_link::Link;
 use gg_net::{ServedPort, first_missing, first_unfired, first_unlatched};

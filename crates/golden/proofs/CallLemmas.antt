@@ -2,7 +2,7 @@
 use Rattle.std.proofs.Common.{◌≡◌, ℕ, List, [], refl, sym, ◌∙◌}
 use Rattle.std.specs.Prelude.{Result, Err}
 use Rattle.gg_io.specs.Ends.{Loads, Puts, Reports}
-use Rattle.gg_io.specs.Endings.{IfRefused, EndedOn, said_by}
+use Rattle.gg_io.specs.inside.Endings.{IfRefused, EndedOn, said_by}
 use Rattle.gg_io.specs.declared.endings.Ending.{Ending}
 use Rattle.gg_io.specs.declared.endings.Ending.TheVariants.{Refused, Unwritten, NoMemory}
 use Rattle.gg_io.proofs.WritingLemmas.{append_known-nil}
@@ -11,7 +11,8 @@ use Rattle.gg_words.specs.declared.command.Cmd.{Cmd}
 use Rattle.gg_cut_plan.specs.Bridges.{Models}
 use Rattle.gg_io.proofs.EndingLemmas.{wants-ends}
 use Rattle.golden_commands.specs.Commands.{order_of}
-use Rattle.golden_commands.specs.Outcome.{Asked, Unasked, WantsMemoryFirst, Answered, CallEnded}
+use Rattle.golden_commands.specs.Outcome.{Asked, Unasked, WantsMemoryFirst, Answered}
+use Rattle.golden_commands.specs.inside.Outcome.{CallEnded}
 use Rattle.golden_commands.specs.Words.{AskForCommand, TellsUnasked}
 
 module _ {T : Type 0} {models : Models} {words : List (List ℕ)} {loads : Loads} {out : Puts} where

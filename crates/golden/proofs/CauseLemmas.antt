@@ -4,7 +4,7 @@ use Rattle.std.specs.Prelude.{Result, Ok}
 use Rattle.gg_io.specs.Said.{Said}
 use Rattle.gg_io.specs.Order.{StopsAt, DueAt, IsDueAccepted, IsExact, IsJudgement}
 use Rattle.gg_io.specs.Ends.{Loads}
-use Rattle.gg_io.specs.Endings.{IfRefused}
+use Rattle.gg_io.specs.inside.Endings.{IfRefused}
 use Rattle.gg_io.specs.declared.endings.Ending.{Ending}
 use Rattle.gg_io.proofs.EndingLemmas.{IfRefused-map}
 use Rattle.gg_io.proofs.EndsLemmas.{WhyEnds, Stopped, Wrote, Failed, Wanted, SaysDue, complete-ends, due-ends, ends-why, unjudged-0, unjudged-2, unjudged-3, unjudged-4, unjudged-5, unjudged-8}

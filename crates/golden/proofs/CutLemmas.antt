@@ -1,6 +1,6 @@
 -- The text of a cut is the only one.
 use Rattle.std.proofs.Common.{◌≡◌, ℕ, List, subst}
-use Rattle.gg_cut_reference.specs.text.Alike.{AreAlike}
+use Rattle.gg_cut_reference.specs.inside.Alike.{AreAlike}
 use Rattle.gg_cut_reference.specs.text.CheckText.{IsTextOfCut}
 use Rattle.gg_front.specs.Meaning.{MeansDesign}
 use Rattle.gg_order.specs.Design.{Ordered}

@@ -2,7 +2,8 @@
 use Rattle.std.proofs.Common.{◌≡◌, ℕ, ◌+◌, ◌-◌, ◌*◌, ◌<◌, ◌≤◌, List, [], ◌++◌, length, sym, ap, ◌∙◌, subst, arith}
 use Rattle.std.specs.Prelude.{Result, slice_index}
 use Rattle.std.proofs.lemmas.List.{length-map}
-use Rattle.gg_build.specs.Build.{NeedsNone, circuit_order, circuit_rows}
+use Rattle.gg_build.specs.inside.Build.{NeedsNone}
+use Rattle.gg_build.specs.Build.{circuit_order, circuit_rows}
 use Rattle.gg_build.proofs.AloneLemmas.{needs-none}
 use Rattle.gg_rows.specs.CircuitText.{demo_circuit}
 use Rattle.gg_rows.specs.PartitionText.{demo_partition}
@@ -10,25 +11,27 @@ use Rattle.gg_rows.specs.SummaryText.{demo_summary, fold_line, folded, last_line
 use Rattle.gg_rows.specs.TraceText.{demo_cycles, demo_trace}
 use Rattle.gg_cut_plan.specs.Direct.{plan_hub}
 use Rattle.gg_flat.specs.Circuit.{FlatCircuit}
-use Rattle.gg_net.specs.markings.Fits.{HasLayout, marking_of}
+use Rattle.gg_net.specs.inside.Fits.{HasLayout, marking_of}
 use Rattle.gg_net.specs.markings.Marking.{Layout, Marking, opening_marking}
-use Rattle.gg_measure.specs.Nets.{net_left}
+use Rattle.gg_measure.specs.inside.Nets.{net_left}
 use Rattle.gg_measure.proofs.NetLemmas.{can-run, left-is}
 use Rattle.gg_net.specs.Kept.{Kept}
 use Rattle.gg_net.specs.Net.{opening_net}
 use Rattle.gg_net.specs.Network.{Network, frame_of, kind_of}
 use Rattle.gg_order.specs.Design.{Ordered}
-use Rattle.gg_net.specs.markings.Counts.{counts_of}
-use Rattle.gg_net.specs.markings.Measure.{all_dues, left}
+use Rattle.gg_net.specs.inside.Counts.{counts_of}
+use Rattle.gg_net.specs.markings.Measure.{all_dues}
+use Rattle.gg_net.specs.inside.Measure.{left}
 use Rattle.gg_net.proofs.MarkingsLemmas.EndLemmas.{opening-left}
 use Rattle.gg_cut_reference.specs.Follows.{plan_start}
 use Rattle.gg_cut_reference.specs.Links.{taken_as}
 use Rattle.gg_cut_reference.specs.whole.Whole.{plan_circuit}
 use Rattle.gg_build.specs.plan.Built.{IsGiven, no_token, wires_of_plan}
-use Rattle.gg_rows.specs.Sums.{AreSums, FoldsRows, output_column, sums_text}
+use Rattle.gg_rows.specs.inside.Sums.{AreSums, FoldsRows, sums_text}
+use Rattle.gg_rows.specs.Sums.{output_column}
 use Rattle.gg_rows.specs.declared.sums.Sums.{Sums}
 use Rattle.gg_io.specs.Ends.{Loads, Puts}
-use Rattle.gg_io.specs.Endings.{EndedOn, PrintsOrStops, PrintsText, Stops, Wants}
+use Rattle.gg_io.specs.inside.Endings.{EndedOn, PrintsOrStops, PrintsText, Stops, Wants}
 use Rattle.gg_io.specs.Order.{IsOnly, Write}
 use Rattle.gg_io.specs.declared.endings.Ending.{Ending}
 use Rattle.gg_io.specs.declared.endings.Ending.TheVariants.{Refused, Unwritten, NoMemory}

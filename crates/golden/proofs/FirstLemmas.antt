@@ -13,7 +13,7 @@ use Rattle.gg_order.proofs.RunsLemmas.RunLemmas.{IsRunFrom-first, state_at-appen
 use Rattle.gg_trace.specs.Last.{row_count}
 use Rattle.gg_trace.specs.Table.{row_of}
 use Rattle.gg_trace.proofs.LastLaws.{halts-first, halts-none, rows-grow, rows-within}
-use Rattle.gg_rows.specs.Printed.{IsFirst}
+use Rattle.gg_rows.specs.inside.Printed.{IsFirst}
 
 -- ---- rows
 

@@ -11,9 +11,9 @@ use Rattle.gg_flat.specs.declared.ports.Port.{Port}
 use Rattle.gg_order.specs.Design.{Ordered}
 use Rattle.gg_partfile.proofs.OnceLemmas.{request-once}
 use Rattle.gg_partfile.specs.declared.request.Request.{Request}
-use Rattle.gg_cut_reference.specs.text.Alike.{AreAlike}
+use Rattle.gg_cut_reference.specs.inside.Alike.{AreAlike}
 use Rattle.gg_cut_reference.proofs.TextLemmas.SameCutLemmas.{alike-is}
-use Rattle.gg_front.specs.Paths.{HavePaths}
+use Rattle.gg_front.specs.inside.Paths.{HavePaths}
 use Rattle.gg_front.proofs.FreshLemmas.{none-piped}
 use Rattle.gg_front.proofs.PortLemmas.{have-paths}
 use Rattle.gg_cut_plan.specs.Bridges.{Models}

@@ -5,7 +5,7 @@ use Rattle.std.specs.Io.KnownBytes.{append_known}
 use Rattle.gg_io.specs.Told.{Told}
 use Rattle.gg_io.specs.Order.{IsExact, IsJudgement, Order}
 use Rattle.gg_io.specs.Ends.{Loads, Puts}
-use Rattle.gg_io.specs.Endings.{IfRefused, Prints, StopsBy, said_by, said_of}
+use Rattle.gg_io.specs.inside.Endings.{IfRefused, Prints, StopsBy, said_by, said_of}
 use Rattle.gg_io.specs.Said.{Said}
 use Rattle.gg_io.specs.declared.endings.Ending.{Ending}
 use Rattle.gg_io.specs.declared.endings.Ending.TheVariants.{NoMemory, Refused, Unwritten}

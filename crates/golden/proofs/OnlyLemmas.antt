@@ -8,14 +8,14 @@ use Rattle.gg_part.specs.KeepsToTree.{KeepsToTree}
 use Rattle.gg_order.specs.Design.{Ordered}
 use Rattle.gg_partfile.specs.declared.request.Request.{Request}
 use Rattle.gg_partfile.proofs.OnceLemmas.{request-once}
-use Rattle.gg_cut_reference.specs.text.Alike.{AreAlike}
+use Rattle.gg_cut_reference.specs.inside.Alike.{AreAlike}
 use Rattle.gg_cut_reference.proofs.TextLemmas.SameCutLemmas.{alike-is}
 use Rattle.gg_cut_reference.specs.whole.Whole.{CanBridge, HasFreeFronts, plan_circuit}
 use Rattle.gg_cut_plan.specs.Held.{AreHeldOnce}
 use Rattle.gg_cut_reference.specs.Follows.{plan_start}
 use Rattle.gg_cut_reference.proofs.StartLemmas.{plan-typed}
 use Rattle.gg_build.specs.plan.Built.{flow_of}
-use Rattle.gg_build.specs.Build.{IsToRun}
+use Rattle.gg_build.specs.inside.Build.{IsToRun}
 use Rattle.gg_rows.proofs.TextLemmas.{shown-text}
 use Rattle.golden_commands.specs.Case.{IsFed}
 use Rattle.golden_commands.specs.Network.{IsNetworkText}

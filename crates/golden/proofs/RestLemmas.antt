@@ -28,12 +28,13 @@ use Rattle.gg_cut_reference.proofs.WholeLemmas.PlanLemmas.{circuit-formed}
 use Rattle.gg_cut_reference.proofs.WholeLemmas.StateLemmas.{states-with}
 use Rattle.gg_build.specs.Build.{circuit_order}
 use Rattle.gg_build.specs.plan.Built.{IsGiven}
-use Rattle.gg_rows.specs.Printed.{plan_stops, rows_since, text_since}
-use Rattle.gg_snap.specs.Whole.{CanBegin}
+use Rattle.gg_rows.specs.Printed.{plan_stops}
+use Rattle.gg_rows.specs.inside.Printed.{rows_since, text_since}
+use Rattle.gg_snap.specs.inside.Whole.{CanBegin}
 use Rattle.gg_snap.specs.text.Known.{AreKnown}
 use Rattle.gg_snap.specs.text.Standing.{IfFault, IsFirstFault, IsSnap}
 use Rattle.gg_snap.specs.text.Table.{rows_of}
-use Rattle.gg_snap.specs.text.Whole.{IsWhole}
+use Rattle.gg_snap.specs.inside.TextWhole.{IsWhole}
 use Rattle.gg_snap.specs.text.FaultText.{fault_words}
 use Rattle.gg_snap.specs.declared.text.fault.SnapFault.{SnapFault}
 use Rattle.gg_snap.specs.declared.text.fault.SnapFault.TheVariants as snap
@@ -47,7 +48,7 @@ use Rattle.golden_commands.specs.Lines.{few_rows, snap_fault}
 use Rattle.golden_commands.specs.Resumed.{CanBeResumed, HasRest, IsResumedText, TellsLate, TellsNoSnap, rest_text, start_at}
 use Rattle.golden_commands.specs.Partition.{to_save}
 use Rattle.golden_commands.specs.RunText.{columns_of, outputs_kept, shown_ports}
-use Rattle.golden_commands.specs.Runs.{TellsSnapOf, meant_by, resumed_flow, resumed_rows}
+use Rattle.golden_commands.specs.inside.Runs.{TellsSnapOf, meant_by, resumed_flow, resumed_rows}
 use Rattle.golden_commands.specs.declared.case.Fed.{Fed}
 use Rattle.golden_commands.proofs.AloneLemmas.{circuit-alone}
 use Rattle.golden_commands.proofs.CaseLemmas.{case-can, case-faultless, case-fresh, case-ordered}

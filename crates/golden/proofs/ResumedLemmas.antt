@@ -10,7 +10,7 @@ use Rattle.gg_flat_tree.specs.Tree.{InstanceTree}
 use Rattle.gg_part.specs.KeepsToTree.{KeepsToTree}
 use Rattle.gg_order.specs.Design.{IsDesign, Ordered}
 use Rattle.gg_partfile.specs.declared.request.Request.{Request}
-use Rattle.gg_front.specs.Paths.{HavePaths}
+use Rattle.gg_front.specs.inside.Paths.{HavePaths}
 use Rattle.gg_cut_reference.specs.Made.{plan_reference}
 use Rattle.gg_rows.specs.Printed.{plan_stops}
 use Rattle.gg_snap.specs.text.FaultText.{fault_words}

@@ -7,7 +7,7 @@ use Rattle.gg_replay.specs.steps_file.Naming.{Naming}
 use Rattle.gg_replay.specs.steps_file.Steps.{steps_of}
 use Rattle.gg_io.specs.Order.{CanBe, File, IsRefused}
 use Rattle.gg_io.specs.Ends.{Loads, Puts, Reports, Tells}
-use Rattle.gg_io.specs.Endings.{IfRefused, Prints, PrintsOrStops, PrintsText, Stops, StopsBy, Wants, said_by, said_of}
+use Rattle.gg_io.specs.inside.Endings.{IfRefused, Prints, PrintsOrStops, PrintsText, Stops, StopsBy, Wants, said_by, said_of}
 use Rattle.gg_io.specs.Said.{Said, cannot_load, is_over}
 use Rattle.gg_io.specs.declared.endings.Ending.{Ending}
 use Rattle.gg_io.specs.declared.endings.Ending.TheVariants.{NoMemory, Refused, Unwritten}
@@ -15,14 +15,17 @@ use Rattle.gg_io.proofs.EndingLemmas.{judged-map}
 use Rattle.gg_words.specs.Meaning.{IsCommand}
 use Rattle.gg_words.specs.declared.command.Cmd.{Cmd}
 use Rattle.gg_words.specs.declared.command.Cmd.TheVariants.{Replay}
-use Rattle.golden_commands.specs.Case.{FedRead, IsFed, trace_order}
+use Rattle.golden_commands.specs.inside.Case.{FedRead, trace_order}
+use Rattle.golden_commands.specs.Case.{IsFed}
 use Rattle.golden_commands.specs.Commands.{Asked, asking}
 use Rattle.golden_commands.specs.Lines.{circuit_fault, partition_fault, trace_fault}
 use Rattle.golden_commands.specs.Partition.{Known, TellsPartitionFor, partition_file_for}
-use Rattle.golden_commands.specs.Replay.{IsReplayed, TellsSteps, steps_file_for}
+use Rattle.golden_commands.specs.inside.Replay.{IsReplayed}
+use Rattle.golden_commands.specs.Replay.{TellsSteps, steps_file_for}
 use Rattle.golden_commands.specs.Replayed.{IsNetText, TellsStop, case_naming, fed_flow}
 use Rattle.golden_commands.specs.Run.{TellsCircuit, TellsTraceFor, circuit_file, trace_file_for}
-use Rattle.golden_commands.specs.Stepped.{IsSteppedText, IsToldText, TellsRefusedStep, TellsToldStep, ToldBehind, ToldByNetwork}
+use Rattle.golden_commands.specs.Stepped.{IsSteppedText, TellsRefusedStep, ToldByNetwork}
+use Rattle.golden_commands.specs.inside.Stepped.{IsToldText, TellsToldStep, ToldBehind}
 use Rattle.golden_commands.specs.Words.{AskForCommand, TellsUnasked}
 use Rattle.golden_commands.specs.declared.case.Fed.{Fed}
 use Rattle.golden_commands.proofs.FedLemmas.{named, stop-so, text-so}

@@ -23,7 +23,8 @@ use Rattle.gg_net.specs.Network.{AllStandAt}
 use Rattle.gg_rows.proofs.OpeningLemmas.{from-zeros}
 use Rattle.gg_rows.proofs.OutputLemmas.{net-stays, opening-is-net}
 use Rattle.gg_cut_reference.specs.whole.Whole.{plan_circuit}
-use Rattle.gg_build.specs.Build.{HasBridges, IsOpeningOf, IsToRun, circuit_order, circuit_rows, run_from_zeros, run_token}
+use Rattle.gg_build.specs.inside.Build.{HasBridges, IsToRun, run_from_zeros}
+use Rattle.gg_build.specs.Build.{IsOpeningOf, circuit_order, circuit_rows, run_token}
 use Rattle.gg_build.proofs.AlongLemmas.{given-along}
 use Rattle.gg_build.specs.plan.Built.{IsGiven, nameless}
 use Rattle.gg_flat.specs.State.{State}
@@ -32,26 +33,29 @@ use Rattle.gg_flat_tree.specs.Tree.{InstanceTree}
 use Rattle.gg_net.specs.Network.{Network, frame_of}
 use Rattle.gg_build.specs.StandsAt.{StandsAt}
 use Rattle.gg_snap.specs.Whole.{HasEnded, last_state}
-use Rattle.gg_snap.specs.text.Snap.{Snapshot}
+use Rattle.gg_snap.specs.inside.Snap.{Snapshot}
 use Rattle.gg_snap.specs.text.Standing.{IsSnap}
-use Rattle.gg_rows.specs.Printed.{IsFirst, ends_run, is_halt, plan_stops}
+use Rattle.gg_rows.specs.inside.Printed.{IsFirst, ends_run, is_halt}
+use Rattle.gg_rows.specs.Printed.{plan_stops}
 use Rattle.gg_snap.specs.text.Lines.{snap_text}
 use Rattle.gg_snap.specs.text.Table.{rows_of}
 use Rattle.gg_io.specs.Ends.{Loads, Puts}
-use Rattle.gg_io.specs.Endings.{EndedOn, IfRefused, PrintsOrStops, StopsBy}
+use Rattle.gg_io.specs.inside.Endings.{EndedOn, IfRefused, PrintsOrStops, StopsBy}
 use Rattle.gg_io.specs.Order.{IsOnly, Load, Write}
 use Rattle.gg_io.specs.Said.{Said}
 use Rattle.gg_io.specs.declared.endings.Ending.{Ending}
 use Rattle.gg_io.specs.declared.endings.Ending.TheVariants.{NoMemory}
 use Rattle.gg_io.proofs.EndingLemmas.{judged-ends, judged-map, loads-same}
 use Rattle.gg_trace.specs.Last.{acts}
-use Rattle.golden_commands.specs.Case.{FedRead, IsCase, IsFed, trace_order}
+use Rattle.golden_commands.specs.inside.Case.{FedRead, trace_order}
+use Rattle.golden_commands.specs.Case.{IsCase, IsFed}
 use Rattle.golden_commands.specs.Commands.{Asked, read_order}
 use Rattle.golden_commands.specs.Lines.{few_rows}
 use Rattle.golden_commands.specs.Partition.{Known, to_save}
 use Rattle.golden_commands.specs.RunText.{shown_ports}
-use Rattle.golden_commands.specs.Replayed.{IsToReplay, fed_flow}
-use Rattle.golden_commands.specs.Runs.{FindsStop, Halted, IsUpto, Short, TellsEarly, meant_by, text_after, upto}
+use Rattle.golden_commands.specs.inside.Replayed.{IsToReplay}
+use Rattle.golden_commands.specs.Replayed.{fed_flow}
+use Rattle.golden_commands.specs.inside.Runs.{FindsStop, Halted, IsUpto, Short, TellsEarly, meant_by, text_after, upto}
 use Rattle.golden_commands.specs.Saved.{CanBeSaved, HasRun, IsSavedText, TellsFew, save_limit, saved_file_for}
 use Rattle.golden_commands.specs.declared.case.Fed.{Fed}
 use Rattle.golden_commands.proofs.BeginLemmas.{run-of}

@@ -6,7 +6,7 @@ ghost use Rattle.golden_commands.specs.Check.{IsCutTextOf};
 ghost use Rattle.golden_commands.specs.Commands.{asking, read_order};
 ghost use Rattle.golden_commands.specs.Handed.{AreHandedIn};
 ghost use Rattle.golden_commands.specs.Partition.{Known, to_run};
-ghost use Rattle.gg_io.specs.Endings.{EndedOn, PrintsOn};
+ghost use Rattle.gg_io.specs.inside.Endings.{EndedOn, PrintsOn};
 ghost use Rattle.gg_io.specs.Order.{IsOnly, Write};
 ghost use Rattle.gg_io.specs.Ends.{loads_of, puts_of};
 ghost use Rattle.gg_io.specs.WentOn.{ShelfWentOn, SinkWentOn};

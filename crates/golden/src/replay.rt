@@ -1,18 +1,20 @@
 //! The command `replay`.
 ghost use Rattle.std.specs.Prelude.{◌≤◌, ℕ, List};
 ghost use Rattle.gg_io.specs.Ends.{loads_of, puts_of};
-ghost use Rattle.gg_io.specs.Endings.{EndedOn, PrintsOrStops, said_by};
+ghost use Rattle.gg_io.specs.inside.Endings.{EndedOn, PrintsOrStops, said_by};
 ghost use Rattle.gg_io.specs.Order.{Load, Write};
 ghost use Rattle.gg_io.specs.WentOn.{ShelfWentOn, SinkWentOn};
 ghost use Rattle.gg_words.specs.Range.{IsCapacity};
-ghost use Rattle.gg_build.specs.Build.{HasBridges};
-ghost use Rattle.golden_commands.specs.Bridges.{HaveModels};
+ghost use Rattle.gg_build.specs.inside.Build.{HasBridges};
+ghost use Rattle.golden_commands.specs.inside.Bridges.{HaveModels};
 ghost use Rattle.golden_commands.specs.Case.{IsFed};
-ghost use Rattle.golden_commands.specs.Commands.{asking, fed_order};
+ghost use Rattle.golden_commands.specs.Commands.{asking};
+ghost use Rattle.golden_commands.specs.inside.Commands.{fed_order};
 ghost use Rattle.golden_commands.specs.Handed.{AreHandedIn};
 ghost use Rattle.golden_commands.specs.Partition.{to_run};
 ghost use Rattle.golden_commands.specs.Replay.{IsReplayOf, steps_file_for};
-ghost use Rattle.golden_commands.specs.Stepped.{IsToldText, TellsToldStep, ToldBehind, ToldByNetwork};
+ghost use Rattle.golden_commands.specs.inside.Stepped.{IsToldText, TellsToldStep, ToldBehind};
+ghost use Rattle.golden_commands.specs.Stepped.{ToldByNetwork};
 
 use gg_bits::{Name, STEPS_LIMIT};
 use gg_bridge::Bridge;

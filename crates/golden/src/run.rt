@@ -1,15 +1,17 @@
 //! The command `run`.
 ghost use Rattle.std.specs.Prelude.{◌≡◌, ◌≤◌, ℕ, List, false};
 ghost use Rattle.gg_words.specs.Range.{IsCapacity};
-ghost use Rattle.gg_build.specs.Build.{HasBridges};
-ghost use Rattle.golden_commands.specs.Bridges.{HaveModels};
-ghost use Rattle.golden_commands.specs.Commands.{asking, fed_order};
+ghost use Rattle.gg_build.specs.inside.Build.{HasBridges};
+ghost use Rattle.golden_commands.specs.inside.Bridges.{HaveModels};
+ghost use Rattle.golden_commands.specs.Commands.{asking};
+ghost use Rattle.golden_commands.specs.inside.Commands.{fed_order};
 ghost use Rattle.golden_commands.specs.Handed.{AreHandedIn};
 ghost use Rattle.golden_commands.specs.Partition.{to_run};
-ghost use Rattle.gg_io.specs.Endings.{EndedOn, said_by};
+ghost use Rattle.gg_io.specs.inside.Endings.{EndedOn, said_by};
 ghost use Rattle.gg_io.specs.Order.{Write};
 ghost use Rattle.golden_commands.specs.Run.{IsTextOf};
-ghost use Rattle.golden_commands.specs.Case.{IsFed, PrintsFed, PrintsFedByNetwork};
+ghost use Rattle.golden_commands.specs.Case.{IsFed};
+ghost use Rattle.golden_commands.specs.inside.Case.{PrintsFed, PrintsFedByNetwork};
 ghost use Rattle.golden_commands.specs.Network.{RanNetwork};
 ghost use Rattle.gg_io.specs.Ends.{loads_of, puts_of};
 ghost use Rattle.gg_io.specs.WentOn.{ShelfWentOn, SinkWentOn};

@@ -1,11 +1,12 @@
 //! The command `save`.
 ghost use Rattle.std.specs.Prelude.{◌≡◌, ◌≤◌, ℕ, List, None, IfErr, IfOk};
-ghost use Rattle.gg_build.specs.Build.{run_from_zeros, run_token};
+ghost use Rattle.gg_build.specs.inside.Build.{run_from_zeros};
+ghost use Rattle.gg_build.specs.Build.{run_token};
 ghost use Rattle.gg_cut_plan.specs.Bridges.{Models};
 ghost use Rattle.gg_bits.specs.Limits.{cycle_limit};
 ghost use Rattle.gg_cut_reference.specs.Follows.{plan_start};
 ghost use Rattle.gg_build.specs.StandsAt.{StandsAt};
-ghost use Rattle.gg_io.specs.Endings.{EndedOn, IfRefused, PrintsOrStops};
+ghost use Rattle.gg_io.specs.inside.Endings.{EndedOn, IfRefused, PrintsOrStops};
 ghost use Rattle.gg_io.specs.Ends.{loads_of, puts_of};
 ghost use Rattle.gg_io.specs.Order.{IsOnly, Load, Write};
 ghost use Rattle.gg_io.specs.WentOn.{ShelfWentOn, SinkWentOn};
@@ -14,8 +15,8 @@ ghost use Rattle.golden_commands.specs.Case.{IsCase, IsFed};
 ghost use Rattle.golden_commands.specs.Commands.{asking, read_order};
 ghost use Rattle.golden_commands.specs.Handed.{AreHandedIn};
 ghost use Rattle.golden_commands.specs.Partition.{to_save};
-ghost use Rattle.golden_commands.specs.Replayed.{IsToReplay};
-ghost use Rattle.golden_commands.specs.Runs.{FindsStop, IsUpto, TellsEarly, text_after};
+ghost use Rattle.golden_commands.specs.inside.Replayed.{IsToReplay};
+ghost use Rattle.golden_commands.specs.inside.Runs.{FindsStop, IsUpto, TellsEarly, text_after};
 ghost use Rattle.golden_commands.specs.Saved.{CanBeSaved, IsSavedText, TellsFew, saved_file_for};
 
 use gg_bits::Name;

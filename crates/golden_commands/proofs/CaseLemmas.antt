@@ -17,7 +17,7 @@ use Rattle.gg_cut_reference.specs.fitting.Fitting.{AreModels}
 use Rattle.gg_part.specs.KeepsToTree.{KeepsToTree}
 use Rattle.gg_order.specs.Design.{IsDesign, Ordered}
 use Rattle.gg_partfile.specs.declared.request.Request.{Request}
-use Rattle.gg_front.specs.Paths.{HavePaths}
+use Rattle.gg_front.specs.inside.Paths.{HavePaths}
 use Rattle.gg_front.proofs.FreshLemmas.{none-bridged, none-piped}
 use Rattle.gg_front.proofs.PortLemmas.{have-paths}
 use Rattle.gg_snap.specs.text.Known.{CanSave}
@@ -29,11 +29,13 @@ use Rattle.gg_build.specs.Build.{circuit_order}
 use Rattle.gg_io.specs.Said.{Said}
 use Rattle.gg_io.specs.Order.{Order}
 use Rattle.gg_io.specs.Ends.{Loads, Puts}
-use Rattle.gg_io.specs.Endings.{EndedOn, StopsBy}
+use Rattle.gg_io.specs.inside.Endings.{EndedOn, StopsBy}
 use Rattle.gg_io.specs.declared.endings.Ending.{Ending}
 use Rattle.gg_io.proofs.EndingLemmas.{GoOn, accepted-ends, later-stops, loads-same}
-use Rattle.golden_commands.specs.Case.{IsCase, CaseRead, FedRead, case_order, trace_order}
-use Rattle.golden_commands.specs.Commands.{Asked, read_order, fed_order}
+use Rattle.golden_commands.specs.Case.{IsCase}
+use Rattle.golden_commands.specs.inside.Case.{CaseRead, FedRead, case_order, trace_order}
+use Rattle.golden_commands.specs.Commands.{Asked, read_order}
+use Rattle.golden_commands.specs.inside.Commands.{fed_order}
 use Rattle.golden_commands.specs.Handed.{AreHandedIn, IsBridgeName, is_word_byte}
 use Rattle.golden_commands.specs.Partition.{IsPartitionFor, Known}
 use Rattle.golden_commands.specs.Run.{IsTraceFor}

@@ -21,26 +21,27 @@ use Rattle.gg_partfile.specs.Size.{all_driven, all_seen}
 use Rattle.gg_partfile.specs.declared.request.BridgeEntry.{BridgeEntry}
 use Rattle.gg_partfile.specs.declared.request.Request.{Request}
 use Rattle.gg_cut_plan.specs.Bridges.{Models}
-use Rattle.gg_cut_plan.specs.Channels.{channel_signals, flattened, port_signals}
+use Rattle.gg_cut_plan.specs.inside.Channels.{channel_signals, port_signals}
+use Rattle.gg_cut_plan.specs.Channels.{flattened}
 use Rattle.gg_cut_plan.specs.Machines.{first_memory, first_source, is_memory}
 use Rattle.gg_cut_plan.specs.Fault.{first_fault}
 use Rattle.gg_cut_plan.specs.Listed.{is_among, listed_of}
 use Rattle.gg_cut_plan.specs.Plan.{machine_names}
 use Rattle.gg_cut_plan.specs.Seated.{machine_end, open_ins, open_outs, output_count, plan_bridges}
 use Rattle.gg_cut_plan.specs.declared.listed.Listed.{Listed}
-use Rattle.gg_cut_reference.specs.fitting.Fitting.{AreFitting}
+use Rattle.gg_cut_reference.specs.inside.Fitting.{AreFitting}
 use Rattle.gg_cut_reference.proofs.FittingLemmas.NameLemmas.{names-count}
 use Rattle.gg_cut_plan.proofs.KnownLemmas.{signals-known}
-use Rattle.gg_cut_split.specs.closed.Apart.{AreApart}
-use Rattle.gg_cut_split.specs.closed.Longest.{listed_paths}
+use Rattle.gg_cut_split.specs.inside.Apart.{AreApart}
+use Rattle.gg_cut_split.specs.inside.Longest.{listed_paths}
 use Rattle.gg_cut_split.proofs.ClosedLemmas.FaultlessLemmas.{faultless-apart}
 use Rattle.gg_cut_split.proofs.ClosedLemmas.ListLemmas.{AllPairs-append, AllPairs-map, map-cases}
 use Rattle.gg_cut_split.proofs.ClosedLemmas.ListedLemmas.{memory-paths}
 use Rattle.gg_cut_split.proofs.ClosedLemmas.OnceLemmas.{signals-once}
 use Rattle.gg_cut_reference.specs.whole.Whole.{CanBridge}
 use Rattle.gg_cut_reference.proofs.WholeLemmas.PlanLemmas.{fit}
-use Rattle.gg_front.specs.Paths.{HavePaths, IsPath, is_path_byte}
-use Rattle.gg_replay.specs.steps_file.Spelling.{AreUsable, IsUsable}
+use Rattle.gg_front.specs.inside.Paths.{HavePaths, IsPath, is_path_byte}
+use Rattle.gg_replay.specs.inside.Spelling.{AreUsable, IsUsable}
 use Rattle.golden_commands.specs.Handed.{IsBridgeName}
 use Rattle.golden_commands.specs.Replay.{naming_of, port_names}
 use Rattle.golden_commands.proofs.AloneLemmas.{faultless-first}

@@ -21,16 +21,16 @@ use Rattle.gg_cut_plan.specs.declared.wires.Wire.{Wire}
 use Rattle.gg_cut_plan.proofs.ChainLemmas.{lies-self}
 use Rattle.gg_cut_reference.proofs.FittingLemmas.LowLemmas.{wire-signal}
 use Rattle.gg_cut_plan.proofs.KnownLemmas.{parents-before}
-use Rattle.gg_cut_split.specs.closed.Apart.{AreApart}
-use Rattle.gg_cut_split.specs.closed.Longest.{listed_paths}
+use Rattle.gg_cut_split.specs.inside.Apart.{AreApart}
+use Rattle.gg_cut_split.specs.inside.Longest.{listed_paths}
 use Rattle.gg_cut_split.proofs.ClosedLemmas.FaultlessLemmas.{faultless-apart, faultless-known}
 use Rattle.gg_cut_split.proofs.ClosedLemmas.ListedLemmas.{listed-are}
 use Rattle.gg_cut_split.proofs.ClosedLemmas.LongestLemmas.{Among, First, Behind, ArePaths, among}
-use Rattle.gg_cut_routes.specs.Routes.{AreRoutes}
+use Rattle.gg_cut_routes.specs.inside.Routes.{AreRoutes}
 use Rattle.gg_cut_routes.proofs.RoutedLemmas.{plan-routed}
 use Rattle.gg_cut_reference.specs.text.CheckText.{channel_name}
-use Rattle.gg_front.specs.Paths.{HavePaths, IsPath}
-use Rattle.gg_replay.specs.steps_file.Spelling.{AreUsable}
+use Rattle.gg_front.specs.inside.Paths.{HavePaths, IsPath}
+use Rattle.gg_replay.specs.inside.Spelling.{AreUsable}
 use Rattle.golden_commands.proofs.UsableLemmas.{IsPlain, signal-plain, usable}
 
 module _ (design : Ordered) (request : Request) (none : first_fault design request ≡ None) (is : IsDesign design) (keeps : KeepsToTree design.circuit design.tree) (have : HavePaths design.circuit design.tree) where

@@ -11,10 +11,10 @@ use Rattle.gg_partfile.specs.declared.request.Request.{Request}
 use Rattle.gg_cut_plan.specs.Clocks.{stop_ratios}
 use Rattle.gg_cut_plan.specs.Bridges.{Models}
 use Rattle.gg_cut_plan.specs.declared.plan.Plan.{Plan}
-use Rattle.gg_net.specs.markings.Fits.{marking_of}
+use Rattle.gg_net.specs.inside.Fits.{marking_of}
 use Rattle.gg_net.specs.markings.Marking.{Layout, Marking}
 use Rattle.gg_net.specs.markings.Measure.{all_dues}
-use Rattle.gg_front.specs.Paths.{HavePaths}
+use Rattle.gg_front.specs.inside.Paths.{HavePaths}
 use Rattle.gg_cut_reference.specs.whole.Whole.{CanBridge, plan_circuit}
 use Rattle.gg_cut_reference.specs.Follows.{plan_start}
 use Rattle.gg_build.specs.plan.Built.{IsGiven}
@@ -22,20 +22,24 @@ use Rattle.gg_build.specs.Build.{circuit_order, circuit_rows}
 use Rattle.gg_build.proofs.AlongLemmas.{given-along}
 use Rattle.gg_replay.specs.steps_file.Steps.{steps_of}
 use Rattle.gg_io.specs.Said.{Said}
-use Rattle.gg_io.specs.Endings.{Prints}
+use Rattle.gg_io.specs.inside.Endings.{Prints}
 use Rattle.gg_io.specs.declared.endings.Ending.{Ending}
 use Rattle.gg_trace.specs.Fields.{text_lines}
 use Rattle.gg_trace.specs.Last.{halts, row_count}
 use Rattle.gg_trace.specs.Printing.{trace_text}
-use Rattle.golden_commands.specs.Case.{AreFedToTrays, IsFed}
+use Rattle.golden_commands.specs.inside.Case.{AreFedToTrays}
+use Rattle.golden_commands.specs.Case.{IsFed}
 use Rattle.golden_commands.specs.Meant.{AreMeant}
 use Rattle.golden_commands.specs.Network.{IsNetworkText}
 use Rattle.golden_commands.specs.Partition.{Known}
-use Rattle.golden_commands.specs.Replay.{CanGoOn, GoesOnUntilAll, IsReplayText, IsReplayed, IsSetting, Setting, TellsSteps, all_steps, naming_of, replay_text, replayed}
-use Rattle.golden_commands.specs.Replayed.{AreFewNames, IsNetText, IsToReplay, TellsStop, case_naming, fed_flow}
-use Rattle.gg_rows.specs.Printed.{out_columns, plan_stops, rows_to, text_of}
+use Rattle.golden_commands.specs.Replay.{CanGoOn, GoesOnUntilAll, IsReplayText, IsSetting, Setting, TellsSteps, all_steps, naming_of, replay_text, replayed}
+use Rattle.golden_commands.specs.inside.Replay.{IsReplayed}
+use Rattle.golden_commands.specs.inside.Replayed.{AreFewNames, IsToReplay}
+use Rattle.golden_commands.specs.Replayed.{IsNetText, TellsStop, case_naming, fed_flow}
+use Rattle.gg_rows.specs.inside.Printed.{out_columns, rows_to, text_of}
+use Rattle.gg_rows.specs.Printed.{plan_stops}
 use Rattle.golden_commands.specs.Run.{IsTextOf}
-use Rattle.golden_commands.specs.Runs.{meant_by}
+use Rattle.golden_commands.specs.inside.Runs.{meant_by}
 use Rattle.golden_commands.specs.RunText.{IsRunBy, columns_of, outputs_kept, run_rows, run_text, shown_ports, stops_kept}
 use Rattle.golden_commands.specs.declared.case.Fed.{Fed}
 use Rattle.golden_commands.proofs.CaseLemmas.{case-can, case-faultless, case-ordered, case-paths}

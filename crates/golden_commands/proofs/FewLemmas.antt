@@ -22,12 +22,12 @@ use Rattle.gg_cut_plan.specs.Plan.{IsPlan}
 use Rattle.gg_cut_plan.specs.declared.listed.Listed.{Listed}
 use Rattle.gg_cut_plan.specs.declared.plan.Plan.{Plan}
 use Rattle.gg_cut_plan.specs.declared.wires.Wire.{Wire}
-use Rattle.gg_cut_split.specs.closed.Apart.{AreFew}
+use Rattle.gg_cut_split.specs.inside.Apart.{AreFew}
 use Rattle.gg_cut_split.proofs.ClosedLemmas.FaultlessLemmas.{faultless-few}
 use Rattle.gg_cut_routes.proofs.RoutedLemmas.{routed-base}
 use Rattle.gg_build.proofs.PlanLemmas.WordLemmas.{memory-few}
 use Rattle.golden_commands.specs.Replay.{port_names}
-use Rattle.golden_commands.specs.Replayed.{AreFewNames}
+use Rattle.golden_commands.specs.inside.Replayed.{AreFewNames}
 
 -- a memory's ports are its readers and its writers
 ports-counted : (memories : List Memory) (k : ℕ)

@@ -28,14 +28,16 @@ use Rattle.gg_net.specs.Refusal.{unless}
 use Rattle.gg_bits.specs.Lists.{or_else}
 use Rattle.gg_net.specs.markings.Marking.{Layout, Marking, opening_marking, marked_refusal}
 use Rattle.gg_net.specs.markings.Marking as marks
-use Rattle.gg_net.specs.markings.Counts.{CanRun, IsAllowed, IsMarkingOf, counts_of}
-use Rattle.gg_net.specs.markings.Measure.{all_dues, left}
+use Rattle.gg_net.specs.inside.Counts.{CanRun, IsAllowed, IsMarkingOf, counts_of}
+use Rattle.gg_net.specs.markings.Measure.{all_dues}
+use Rattle.gg_net.specs.inside.Measure.{left}
 use Rattle.gg_net.proofs.MarkingsLemmas.EndLemmas.{level-shape, opening-allowed, opening-left}
 use Rattle.gg_net.proofs.MarkingsLemmas.ReplayLemmas.{goes-past, left-longer, longer-left}
 use Rattle.gg_build.specs.plan.CutLayout.{IsLayoutOf, machine_ports, memory_of}
-use Rattle.gg_front.specs.Paths.{HavePaths}
+use Rattle.gg_front.specs.inside.Paths.{HavePaths}
 use Rattle.gg_replay.specs.steps_file.Naming.{Naming, ports_at}
-use Rattle.gg_replay.specs.steps_file.Spelling.{HasNames, IsLengthened}
+use Rattle.gg_replay.specs.inside.Spelling.{HasNames}
+use Rattle.gg_replay.specs.steps_file.Spelling.{IsLengthened}
 use Rattle.gg_replay.specs.steps_file.Steps.{step_of, steps_of}
 use Rattle.gg_replay.proofs.StepsFileLemmas.LengthenLaws.{lengthened}
 use Rattle.gg_replay.proofs.StepsFileLemmas.SpellingLaws.{step-read}

@@ -19,15 +19,16 @@ use Rattle.gg_partfile.specs.declared.request.Request.{Request}
 use Rattle.gg_cut_plan.specs.Bridges.{Models, model_named, model_or}
 use Rattle.gg_cut_plan.specs.Listed.{place_of}
 use Rattle.gg_cut_plan.specs.Seated.{output_count}
-use Rattle.gg_cut_reference.specs.fitting.Fitting.{IsFitting}
+use Rattle.gg_cut_reference.specs.inside.Fitting.{IsFitting}
 use Rattle.gg_cut_plan.specs.declared.plan.Plan.{Plan}
 use Rattle.gg_cut_plan.proofs.PathLemmas.{first_place-Some}
 use Rattle.gg_cut_reference.specs.whole.Whole.{CanBridge}
 use Rattle.gg_build.specs.plan.Built.{IsGiven}
 use Rattle.gg_build.proofs.PlanLemmas.BodyLemmas.{attached-entry}
 use Rattle.gg_build.proofs.PlanLemmas.GivenLemmas.{entries-fit}
-use Rattle.gg_build.specs.Build.{HasBridges}
-use Rattle.golden_commands.specs.Bridges.{CanHandIn, HaveModels, models_in}
+use Rattle.gg_build.specs.inside.Build.{HasBridges}
+use Rattle.golden_commands.specs.Bridges.{CanHandIn, models_in}
+use Rattle.golden_commands.specs.inside.Bridges.{HaveModels}
 use Rattle.golden_commands.specs.Handed.{AreHandedIn, IsBridgeName, most_signals}
 
 -- ---- copies of the models

@@ -3,8 +3,10 @@ use Rattle.std.proofs.Common.{◌≡◌, ℕ, zero, suc, Some, slice_get, ◌+�
 use Rattle.std.proofs.lemmas.List.{drop_all}
 use Rattle.gg_flat.specs.Circuit.{FlatCircuit}
 use Rattle.gg_partfile.specs.declared.request.BridgeEntry.{BridgeEntry}
-use Rattle.gg_bridge.specs.Ports.{CanStand, joined_at}
-use Rattle.gg_cut_reference.specs.whole.Whole.{CanStandAll, with_bridges}
+use Rattle.gg_bridge.specs.inside.Ports.{CanStand}
+use Rattle.gg_bridge.specs.Ports.{joined_at}
+use Rattle.gg_cut_reference.specs.inside.Whole.{CanStandAll}
+use Rattle.gg_cut_reference.specs.whole.Whole.{with_bridges}
 use Rattle.gg_cut_plan.specs.Bridges.{Models, model_of, model_or}
 use Rattle.gg_cut_plan.specs.Listed.{place_of}
 use Rattle.gg_cut_plan.specs.Models.{model_circuits, model_names}

@@ -6,10 +6,10 @@ use Rattle.gg_io.specs.declared.output.Sink
 use Rattle.gg_io.specs.declared.endings.Ending.{Ending}
 use Rattle.gg_cut_plan.specs.declared.plan.Machine.{Machine}
 use Rattle.gg_cut_plan.specs.declared.plan.Plan.{Plan}
-use Rattle.gg_cut_reference.specs.text.PlanText.{channel_names, line_of_channel, line_of_machine, machine_names, plan_text}
+use Rattle.gg_cut_reference.specs.inside.PlanText.{channel_names, line_of_channel, line_of_machine, machine_names, plan_text}
 use Rattle.gg_io.specs.Ends.{IsFront}
 use Rattle.gg_cut_reference.proofs.TextLemmas.LineLemmas.{lines-more}
-use Rattle.gg_io.specs.Endings.{Prints, PrintsOn}
+use Rattle.gg_io.specs.inside.Endings.{Prints, PrintsOn}
 use Rattle.gg_io.specs.WentOn.{SinkWentOn}
 use Rattle.gg_io.proofs.WritingLemmas.{on-then, prints-first, rose-earlier, stop-within, append_known-append}
 

@@ -5,7 +5,8 @@ use Rattle.std.specs.List.{range_with_len}
 use Rattle.std.proofs.lemmas.List.{get_or-map, take_all}
 use Rattle.std.proofs.lemmas.List.FromFn.{get_or-range_with_len, length-range_with_len}
 use Rattle.gg_flat.specs.Streams.{Flow}
-use Rattle.gg_build.specs.Build.{IsToRun, IsOpeningOf}
+use Rattle.gg_build.specs.inside.Build.{IsToRun}
+use Rattle.gg_build.specs.Build.{IsOpeningOf}
 use Rattle.gg_cut_plan.specs.declared.plan.Channel.{Channel}
 use Rattle.gg_cut_plan.specs.declared.plan.Plan.{Plan}
 use Rattle.gg_node.specs.Machine.{machine_at}
@@ -13,13 +14,14 @@ use Rattle.gg_net.specs.declared.event.Event.{Event}
 use Rattle.gg_net.specs.declared.event.StepRefusal.{StepRefusal}
 use Rattle.gg_net.specs.declared.shape.Wire.{Wire}
 use Rattle.gg_net.specs.Kept.{Kept, list_at}
-use Rattle.gg_net.specs.Net.{IsOpening, opening_net}
+use Rattle.gg_net.specs.inside.Net.{IsOpening}
+use Rattle.gg_net.specs.Net.{opening_net}
 use Rattle.gg_net.specs.Network.{Frame, Network, puts, entered, takes}
 use Rattle.gg_net.specs.markings.Goes.{Stopped}
 use Rattle.gg_net.specs.markings.Steps.{Steps, StopsAt}
 use Rattle.gg_net.proofs.MarkingsLemmas.StepsLemmas.{steps-frame}
 use Rattle.gg_cut_reference.specs.Follows.{plan_start}
-use Rattle.gg_replay.specs.Log.{AreFronts, opening_log, tokens_at}
+use Rattle.gg_replay.specs.inside.Log.{AreFronts, opening_log, tokens_at}
 use Rattle.gg_replay.specs.ReplayText.{channel_line}
 use Rattle.gg_replay.proofs.OpeningLemmas.{first-fronts}
 use Rattle.gg_build.specs.plan.Built.{no_token, wires_of_plan}
@@ -32,7 +34,7 @@ use Rattle.gg_io.specs.declared.endings.Ending.TheVariants.{NoMemory}
 use Rattle.gg_io.specs.Said.{Said, line_of}
 use Rattle.golden_commands.specs.Lines.{step_fault}
 use Rattle.gg_io.specs.Ends.{Puts}
-use Rattle.gg_io.specs.Endings.{IfRefused, PrintsOrStops, Stops}
+use Rattle.gg_io.specs.inside.Endings.{IfRefused, PrintsOrStops, Stops}
 use Rattle.golden_commands.specs.Replay.{stopped_by}
 use Rattle.golden_commands.specs.Replayed.{IsNetText, Opened, TellsStop, name_in, net_line, net_text, width_in}
 use Rattle.golden_commands.specs.declared.case.Fed.{Fed}

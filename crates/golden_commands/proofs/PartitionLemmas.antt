@@ -7,7 +7,7 @@ use Rattle.gg_cut_plan.specs.Fault.{first_fault_with}
 use Rattle.gg_cut_plan.specs.Fault as cut
 use Rattle.gg_cut_plan.specs.declared.fault.CutFault.{CutFault}
 use Rattle.gg_cut_plan.specs.declared.fault.CutFault.TheVariants as cut_fault
-use Rattle.gg_cut_reference.specs.text.Alike.{AreAlike}
+use Rattle.gg_cut_reference.specs.inside.Alike.{AreAlike}
 use Rattle.gg_cut_reference.proofs.TextLemmas.SameCutLemmas.{alike-is}
 use Rattle.gg_flat.specs.Circuit.{FlatCircuit}
 use Rattle.gg_front.specs.Meaning.{Means, MeansDesign}
@@ -19,14 +19,15 @@ use Rattle.gg_partfile.specs.Partition.{IsPartition}
 use Rattle.gg_partfile.specs.declared.fault.PartFault.TheVariants as file_fault
 use Rattle.gg_partfile.specs.declared.request.Request.{Request}
 use Rattle.gg_io.specs.Said.{Said}
-use Rattle.gg_io.specs.Endings.{IfRefused}
+use Rattle.gg_io.specs.inside.Endings.{IfRefused}
 use Rattle.gg_io.specs.declared.endings.Ending.{Ending}
 use Rattle.gg_io.proofs.EndingLemmas.{IfRefused-map}
 use Rattle.golden_commands.specs.declared.partition.Cut.{Cut}
 use Rattle.golden_commands.specs.Lines.{partition_fault}
 use Rattle.gg_io.specs.Order.{CanBe, IsExactFile, IsUniqueFile, IsRefused}
 use Rattle.gg_io.proofs.OrderLemmas.{exact-by}
-use Rattle.golden_commands.specs.Partition.{Cuts, HasFault, Known, OfBridges, OfFile, OfRequest, IsPartitionFor, TellsPartitionOf, TellsPartitionFor, partition_file_for, partition_file_of}
+use Rattle.golden_commands.specs.Partition.{Cuts, HasFault, Known, OfBridges, OfFile, OfRequest, IsPartitionFor, TellsPartitionOf, TellsPartitionFor, partition_file_for}
+use Rattle.golden_commands.specs.inside.Partition.{partition_file_of}
 
 -- ---- the fault of bytes
 

@@ -7,15 +7,17 @@ use Rattle.gg_flat.specs.Run.{IsRunFrom, clocked_start, row_at, state_at, inputs
 use Rattle.gg_flat.specs.Settled.{Settled}
 use Rattle.gg_flat.specs.State.{State, next_state}
 use Rattle.gg_io.specs.declared.output.Sink
-use Rattle.gg_refsim.specs.Cycle.{Simulation, Cycle, outputs}
-use Rattle.gg_trace.specs.Table.{Table, row_of}
+use Rattle.gg_refsim.specs.inside.Cycle.{Simulation}
+use Rattle.gg_refsim.specs.Cycle.{Cycle, outputs}
+use Rattle.gg_trace.specs.inside.Table.{Table}
+use Rattle.gg_trace.specs.Table.{row_of}
 use Rattle.gg_io.specs.declared.endings.Ending.{Ending}
 use Rattle.gg_flat.specs.Clock.{Ratio, edges_at}
 use Rattle.gg_io.specs.WentOn.{SinkWentOn}
 use Rattle.gg_io.proofs.WritingLemmas.{on-then}
-use Rattle.gg_rows.specs.Printed.{PrintsRow, RowForm}
-use Rattle.gg_rows.specs.Rows.{outputs_in}
-use Rattle.gg_rows.specs.Taken.{Took, TookTo}
+use Rattle.gg_rows.specs.inside.Printed.{PrintsRow, RowForm}
+use Rattle.gg_rows.specs.inside.Rows.{outputs_in}
+use Rattle.gg_rows.specs.inside.Taken.{Took, TookTo}
 use Rattle.gg_rows.proofs.TakenLemmas.{row-there, took-all, took-fails, took-last, took-next}
 
 -- The first `cycle` rows were printed, each time to go on, and the simulator is in the state before the next, in any run.

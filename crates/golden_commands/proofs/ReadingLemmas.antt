@@ -10,7 +10,8 @@ use Rattle.gg_trace.specs.declared.faults.TraceFault.TheVariants as trace
 use Rattle.gg_trace.specs.declared.faults.TraceFault.TheVariants.{Heading, RowNumber, NotHexadecimal, TooWide, FieldCount, TooManyRows}
 use Rattle.gg_io.specs.Said.{Said}
 use Rattle.gg_io.specs.Order.{CanBe, IsRefused}
-use Rattle.golden_commands.specs.Run.{trace_file_for, trace_file_of}
+use Rattle.golden_commands.specs.Run.{trace_file_for}
+use Rattle.golden_commands.specs.inside.Run.{trace_file_of}
 use Rattle.gg_front.specs.Meaning.{Means}
 use Rattle.gg_io.specs.Told.{Told}
 use Rattle.gg_partfile.specs.Partition.{IsPartition}

@@ -32,7 +32,7 @@ use Rattle.gg_net.specs.Kept.{Kept, list_at}
 use Rattle.gg_net.specs.Net.{opening_net}
 use Rattle.gg_net.specs.Network.{Frame, Network, frame_of}
 use Rattle.gg_net.specs.Network as network
-use Rattle.gg_net.specs.markings.Fits.{HasLayout, marking_of}
+use Rattle.gg_net.specs.inside.Fits.{HasLayout, marking_of}
 use Rattle.gg_net.specs.markings.Goes.{Stopped, replayed_from}
 use Rattle.gg_net.specs.markings.Marking.{Layout, opening_marking, marked_entered, marked_puts, marked_takes}
 use Rattle.gg_net.specs.markings.Steps.{Steps, StopsAt}
@@ -40,7 +40,7 @@ use Rattle.gg_net.proofs.MarkingsLemmas.CountLemmas.{puts-are, entered-are, take
 use Rattle.gg_net.proofs.MarkingsLemmas.OpeningLemmas.{opens-so}
 use Rattle.gg_net.proofs.MarkingsLemmas.StepsLemmas.{all-done, steps-frame, stops-at}
 use Rattle.gg_measure.proofs.NetLemmas.{can-run}
-use Rattle.gg_net.specs.markings.Counts.{CanRun}
+use Rattle.gg_net.specs.inside.Counts.{CanRun}
 use Rattle.gg_cut_reference.specs.Follows.{plan_start, plan_token}
 use Rattle.gg_cut_reference.proofs.StartLemmas.{start-token}
 use Rattle.gg_build.specs.plan.Built.{AreBuilt, IsGiven, flow_of, no_token, opening_of, wires_of_plan}

@@ -5,7 +5,7 @@ use Rattle.gg_flat.specs.Order.{IsOrder}
 use Rattle.gg_order.specs.Design.{Ordered}
 use Rattle.gg_partfile.proofs.OnceLemmas.{request-once}
 use Rattle.gg_partfile.specs.declared.request.Request.{Request}
-use Rattle.gg_cut_reference.specs.text.Alike.{AreAlike}
+use Rattle.gg_cut_reference.specs.inside.Alike.{AreAlike}
 use Rattle.gg_cut_reference.proofs.TextLemmas.SameCutLemmas.{alike-is}
 use Rattle.gg_net.specs.markings.Marking.{Layout, Marking, opening_marking}
 use Rattle.gg_net.specs.markings.Goes.{Stopped, replayed_from}

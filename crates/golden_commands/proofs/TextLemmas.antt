@@ -11,7 +11,7 @@ use Rattle.gg_partfile.proofs.OnceLemmas.{request-once}
 use Rattle.gg_cut_reference.specs.whole.Whole.{plan_circuit}
 use Rattle.gg_cut_plan.specs.Bridges.{Models}
 use Rattle.gg_cut_plan.specs.Clocks.{ratios_of}
-use Rattle.gg_cut_reference.specs.text.Alike.{AreAlike}
+use Rattle.gg_cut_reference.specs.inside.Alike.{AreAlike}
 use Rattle.gg_cut_reference.proofs.TextLemmas.SameCutLemmas.{alike-is}
 use Rattle.golden_commands.specs.Partition.{Known}
 use Rattle.golden_commands.specs.Run.{IsTextOf}

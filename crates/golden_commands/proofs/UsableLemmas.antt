@@ -7,12 +7,12 @@ use Rattle.std.proofs.lemmas.Bool.{and_from, and_parts, eqb-true}
 use Rattle.std.proofs.lemmas.List.Folds.{list_all-append}
 use Rattle.std.proofs.lemmas.List.Sums.{AllPass-from_list_all}
 use Rattle.gg_ast.specs.Names.{IsName}
-use Rattle.gg_front.specs.Paths.{HasPathBytes, IsPath, IsSignalPath, is_path_byte, is_signal_byte}
+use Rattle.gg_front.specs.inside.Paths.{HasPathBytes, IsPath, IsSignalPath, is_path_byte, is_signal_byte}
 use Rattle.gg_front.proofs.BytesLemmas.{name-path}
 use Rattle.gg_trace.specs.Fields.{is_blank}
-use Rattle.gg_trace.specs.Lined.{HasNoFeed}
-use Rattle.gg_trace.specs.Parted.{HasNoBlank}
-use Rattle.gg_replay.specs.steps_file.Spelling.{AreUsable}
+use Rattle.gg_trace.specs.inside.Lined.{HasNoFeed}
+use Rattle.gg_trace.specs.inside.Parted.{HasNoBlank}
+use Rattle.gg_replay.specs.inside.Spelling.{AreUsable}
 use Rattle.golden_commands.specs.Handed.{IsBridgeName, is_word_byte}
 
 -- a byte of a path, or a colon

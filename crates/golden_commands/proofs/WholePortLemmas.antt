@@ -35,7 +35,8 @@ use Rattle.gg_cut_reference.specs.Made.{plan_reference}
 use Rattle.gg_cut_reference.specs.whole.Whole.{CanBridge, plan_circuit, with_bridges}
 use Rattle.gg_cut_reference.proofs.WholeLemmas.PlanLemmas.{reference-made}
 use Rattle.gg_cut_reference.proofs.WholeLemmas.PortLemmas.{plan-ins, plan-outs}
-use Rattle.gg_rows.specs.Printed.{plan_stops, shown_columns, stop_columns, text_of}
+use Rattle.gg_rows.specs.Printed.{plan_stops}
+use Rattle.gg_rows.specs.inside.Printed.{shown_columns, stop_columns, text_of}
 use Rattle.gg_trace.specs.Last.{halts, row_count}
 use Rattle.gg_trace.specs.Ports.{HasDistinctNames, width_at}
 use Rattle.gg_trace.specs.Printing.{trace_text}

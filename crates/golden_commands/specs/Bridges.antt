@@ -21,8 +21,3 @@ pub record CanHandIn {B : Type 0} (piece : B → FlatCircuit) (state : B → Sta
   pub apart : AllPairs (λ a b. a ≢ b) (map (λ pair. pair.0) bridges)
   pub zeros : AreOpening piece state bridges
   pub few : sum (map (λ pair. length (piece pair.1).signals) bridges) ≤ most_signals
-
--- These are the models of bridges that are in the states of zeros.
-pub record HaveModels {B : Type 0} (piece : B → FlatCircuit) (state : B → State) (bridges : List (List ℕ × B)) (models : Models) : Type 0 where
-  pub are : models ≡ models_in piece bridges
-  pub zeros : AreOpening piece state bridges

@@ -30,10 +30,6 @@ asking circuit partition capacity = record { circuit = circuit; partition = part
 abbrev pub read_order : Known → Asked → (next : (circuit partition : List ℕ) → Order) → Order
 read_order known asked next = Load (circuit_file asked.circuit) (λ c. Load (partition_file_for known c asked.partition) (next c))
 
--- the same, and then a trace for the circuit and the partition
-abbrev pub fed_order : Known → Asked → (trace : List ℕ) → (next : (circuit partition trace : List ℕ) → Order) → Order
-fed_order known asked trace next = read_order known asked (λ c p. Load (trace_file_for c p trace) (next c p))
-
 -- what a command asks of its first two files, if it has files
 abbrev pub asked_by : Cmd → Option Asked
 asked_by (Run circuit partition trace capacity workers mono) = Some (asking circuit partition capacity)

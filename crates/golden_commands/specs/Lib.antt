@@ -16,8 +16,8 @@ pub mod Replay
 pub mod Replayed
 pub mod Resumed
 pub mod Run
-pub mod Runs
 pub mod RunText
 pub mod Saved
 pub mod Stepped
 pub mod Words
+pub mod inside

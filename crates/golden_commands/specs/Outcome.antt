@@ -1,11 +1,9 @@
 -- How a call ends: its status, the text that it wrote on `out`, and its line.
 -- Source: this program's own.
-use Rattle.std.specs.Prelude.{◌≡◌, ℕ, List, [], Result}
+use Rattle.std.specs.Prelude.{◌≡◌, ℕ, List, []}
 use Rattle.std.specs.Io.KnownBytes.{append_known}
 use Rattle.gg_io.specs.Said.{Said, out_of_memory}
 use Rattle.gg_io.specs.Ends.{Ends, Loads, Puts, Reports, Says}
-use Rattle.gg_io.specs.Endings.{said_by}
-use Rattle.gg_io.specs.declared.endings.Ending.{Ending}
 use Rattle.gg_cut_plan.specs.Bridges.{Models}
 use Rattle.gg_words.specs.Meaning.{IsCommand}
 use Rattle.gg_words.specs.declared.command.Cmd.{Cmd}
@@ -29,10 +27,3 @@ pub record Answered (models : Models) (words : List (List ℕ)) (loads : Loads) 
   pub outcome : Outcome models words loads out.failed status text line
   pub written : out.after ≡ append_known out.before text
   pub reported : Reports err line
-
--- A call with these words has ended so, and wrote its text after what was written before. Its line is still to be
--- reported.
-pub record CallEnded {T : Type 0} (models : Models) (words : List (List ℕ)) (loads : Loads) (out : Puts) (result : Result T Ending) : Type 0 where
-  pub text : List ℕ
-  pub written : out.after ≡ append_known out.before text
-  pub outcome : Outcome models words loads out.failed (said_by result).status text (said_by result).line

@@ -59,10 +59,6 @@ TellsPartitionOf known design bytes said = (text : List ℕ) × HasFault known d
 abbrev pub partition_file : (name : List ℕ) (IsGood : List ℕ → Type 0) (TellsFault : List ℕ → Said → Type 0) → File
 partition_file name IsGood TellsFault = record { name = name; limit = partition_limit; accepts = IsGood; refuses = TellsFault }
 
--- the file of a partition of a design
-abbrev pub partition_file_of : Known → (design : Ordered) (name : List ℕ) → File
-partition_file_of known design name = partition_file name (IsPartitionOf known design) (TellsPartitionOf known design)
-
 -- a partition of the circuit that these bytes mean
 abbrev pub IsPartitionFor : Known → (circuit bytes : List ℕ) → Type 0
 IsPartitionFor known circuit bytes = (design : Ordered) × MeansDesign circuit design × IsPartitionOf known design bytes

@@ -33,7 +33,7 @@ use Rattle.gg_replay.specs.ReplayText.{channel_line}
 use Rattle.gg_io.specs.Said.{Said}
 use Rattle.gg_bits.specs.Limits.{steps_limit}
 use Rattle.golden_commands.specs.Lines.{step_fault}
-use Rattle.gg_io.specs.Order.{File, IsOnly}
+use Rattle.gg_io.specs.Order.{File}
 use Rattle.golden_commands.specs.Partition.{Cuts, Known}
 use Rattle.golden_commands.specs.RunText.{Feeds, IsRunBy}
 
@@ -155,7 +155,3 @@ IsReplayText known circuit partition trace capacity steps text =
 pub record IsReplayOf (known : Known) (circuit partition trace : List ℕ) (capacity : ℕ) (steps text : List ℕ) : Type 0 where
   pub text_is : IsReplayText known circuit partition trace capacity steps text
   pub goes_on : GoesOnUntilAll known circuit partition trace capacity steps
-
--- each step may be done, and this is the text, the only one
-abbrev pub IsReplayed : Known → (circuit partition trace : List ℕ) (capacity : ℕ) (steps text : List ℕ) → Type 0
-IsReplayed known circuit partition trace capacity steps text = AreDone known circuit partition trace capacity steps × IsOnly (IsReplayOf known circuit partition trace capacity steps) text

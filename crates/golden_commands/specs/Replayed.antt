@@ -1,6 +1,6 @@
 -- The network of a plan on a trace: where the steps of a file lead it, and what is then printed or reported.
 -- Source: this program's own.
-use Rattle.std.specs.Prelude.{◌≡◌, ℕ, ◌<◌, ◌^◌, List, Option, flat_map, length, map, take}
+use Rattle.std.specs.Prelude.{◌≡◌, ℕ, List, Option, flat_map, length, map, take}
 use Rattle.std.specs.List.{range_with_len}
 use Rattle.gg_flat.specs.Line.{value_at}
 use Rattle.gg_flat.specs.Streams.{Flow}
@@ -15,7 +15,7 @@ use Rattle.gg_net.specs.Network.{Network, puts, entered, takes}
 use Rattle.gg_net.specs.markings.Goes.{Stopped}
 use Rattle.gg_net.specs.markings.Steps.{Steps, StopsAt}
 use Rattle.gg_build.specs.plan.Built.{AreBuilt, no_token, opening_of, wires_of_plan}
-use Rattle.gg_build.specs.Build.{IsToRun, flow_along}
+use Rattle.gg_build.specs.Build.{flow_along}
 use Rattle.gg_replay.specs.steps_file.Naming.{Naming}
 use Rattle.gg_replay.specs.ReplayText.{channel_line}
 use Rattle.gg_io.specs.Said.{Said}
@@ -33,12 +33,6 @@ plan_naming plan tree =
       machines = map (λ machine. machine.name) plan.machines;
       ports = map (port_names tree plan.listed) (range_with_len 0 (length plan.machines));
     }
-
--- Numbers of 32 bits suffice for these names.
-pub record AreFewNames (plan : Plan) (tree : InstanceTree) : Type 0 where
-  pub channels : length plan.channels < 2 ^ 32
-  pub machines : length plan.machines < 2 ^ 32
-  pub ports : (m : ℕ) → length (port_names tree plan.listed m) < 2 ^ 32
 
 -- the names of a case's plan
 abbrev pub case_naming : Case → Naming
@@ -67,10 +61,6 @@ net_text plan flow net = flat_map (net_line plan flow net) (range_with_len 0 (le
 -- what the plan's network computes on the trace, with these models
 abbrev pub fed_flow : Models → Fed → Flow
 fed_flow models fed = flow_along fed.case.design fed.case.cut.request models fed.case.cut.plan fed.trace.columns fed.trace.rows
-
--- the plan's network can be built for this flow
-abbrev pub IsToReplay : Fed → Flow → Type 0
-IsToReplay fed flow = IsToRun fed.case.cut.plan fed.trace.columns fed.trace.rows flow
 
 -- the plan's network before its first cycle, with these machines
 abbrev pub fed_opening : Fed → List Machine → Network

@@ -44,10 +44,6 @@ TellsTraceOf flat request trace said = (fault : TraceFault) × IsFirstFault (fed
 abbrev pub trace_file : (name : List ℕ) (IsTrace : List ℕ → Type 0) (TellsFault : List ℕ → Said → Type 0) → File
 trace_file name IsTrace TellsFault = record { name = name; limit = trace_limit; accepts = IsTrace; refuses = TellsFault }
 
--- the file of a trace of a circuit's inputs that no bridge drives
-abbrev pub trace_file_of : (flat : FlatCircuit) (request : Request) (name : List ℕ) → File
-trace_file_of flat request name = trace_file name (IsTraceOf flat request) (TellsTraceOf flat request)
-
 -- a trace of the inputs of the circuit that these bytes mean, without those that the bridges of the partition drive
 abbrev pub IsTraceFor : (circuit partition trace : List ℕ) → Type 0
 IsTraceFor circuit partition trace =

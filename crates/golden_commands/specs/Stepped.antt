@@ -10,7 +10,7 @@ use Rattle.gg_io.specs.Order.{CanBe, IsOnly}
 use Rattle.gg_io.specs.Said.{Said}
 use Rattle.golden_commands.specs.Case.{IsFed}
 use Rattle.golden_commands.specs.Partition.{Known, partition_file_for}
-use Rattle.golden_commands.specs.Replay.{IsReplayOf, IsReplayed, TellsSteps, steps_file_for}
+use Rattle.golden_commands.specs.Replay.{IsReplayOf, steps_file_for}
 use Rattle.golden_commands.specs.Replayed.{IsNetText, TellsStop, case_naming, fed_flow}
 use Rattle.golden_commands.specs.Run.{circuit_file, trace_file_for}
 use Rattle.golden_commands.specs.declared.case.Fed.{Fed}
@@ -31,16 +31,6 @@ pub record TellsRefusedStep (known : Known) (circuit partition trace : List ℕ)
   pub means : IsFed known circuit partition trace capacity fed
   pub tells : TellsStop fed (fed_flow known.models fed) (case_naming fed.case) (steps_of (case_naming fed.case) steps) said
 
--- each step may be done, and this is their text and that of the network, the only one
-pub record IsToldText (known : Known) (circuit partition trace : List ℕ) (capacity : ℕ) (steps text : List ℕ) : Type 0 where
-  pub of_steps : IsReplayed known circuit partition trace capacity steps text
-  pub of_network : IsOnly (IsSteppedText known circuit partition trace capacity steps) text
-
--- this is reported for a refused step, and the network's cause is the same
-pub record TellsToldStep (known : Known) (circuit partition trace : List ℕ) (capacity : ℕ) (steps : List ℕ) (said : Said) : Type 0 where
-  pub of_steps : TellsSteps known circuit partition trace capacity steps said
-  pub of_network : TellsRefusedStep known circuit partition trace capacity steps said
-
 -- ---- of files
 
 -- The steps file can have some bytes. A text was written that is the text of their steps, and that of the network to which they lead.
@@ -58,11 +48,6 @@ pub record RefusedStep (known : Known) (files : List ℕ → Told) (circuit part
   pub steps_bytes : List ℕ
   pub at_steps : CanBe files (steps_file_for known circuit partition trace capacity steps) steps_bytes
   pub of_network : TellsRefusedStep known circuit partition trace capacity steps_bytes said
-
--- What was reported with status 0 or 9 behind the bytes of a circuit, a partition and a trace: the text was written, or a step was refused.
-pub record ToldBehind (known : Known) (files : List ℕ → Told) (out : Puts) (circuit partition trace : List ℕ) (capacity : ℕ) (steps : List ℕ) (said : Said) : Type 0 where
-  pub wrote : said.status ≡ 0 → WroteSteps known files out circuit partition trace capacity steps
-  pub refused : said.status ≡ 9 → RefusedStep known files circuit partition trace capacity steps said
 
 -- The files of a circuit, a partition and a trace can have some bytes of which this holds.
 pub record OfFiles (known : Known) (files : List ℕ → Told) (circuit partition trace : List ℕ) (Holds : (circuit partition trace : List ℕ) → Type 0) : Type 0 where

@@ -1,11 +1,11 @@
 //! What the first files of a command hold: a circuit and the cut that a partition asks for, and a trace.
 ghost use Rattle.std.specs.Prelude.{◌≡◌, ◌≤◌, IfOk, IfErr};
 ghost use Rattle.gg_words.specs.Range.{IsCapacity};
-ghost use Rattle.golden_commands.specs.Case.{CaseRead, FedRead, case_order, trace_order};
+ghost use Rattle.golden_commands.specs.inside.Case.{CaseRead, FedRead, case_order, trace_order};
 ghost use Rattle.golden_commands.specs.Commands.{asking};
 ghost use Rattle.golden_commands.specs.Handed.{AreHandedIn};
-ghost use Rattle.golden_commands.specs.Runs.{upto};
-ghost use Rattle.gg_io.specs.Endings.{IfRefused, StopsBy};
+ghost use Rattle.golden_commands.specs.inside.Runs.{upto};
+ghost use Rattle.gg_io.specs.inside.Endings.{IfRefused, StopsBy};
 ghost use Rattle.gg_io.specs.Ends.{loads_of};
 ghost use Rattle.gg_io.specs.WentOn.{ShelfWentOn};
 

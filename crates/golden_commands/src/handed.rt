@@ -1,7 +1,8 @@
 //! The models of the bridges that are handed in.
 ghost use Rattle.std.specs.Prelude.{◌≡◌, ◌++◌, ◌∷◌, [], All, IfOk, OnOk};
 ghost use Rattle.gg_bridge.specs.Model.{IsModel};
-ghost use Rattle.golden_commands.specs.Bridges.{CanHandIn, HaveModels};
+ghost use Rattle.golden_commands.specs.Bridges.{CanHandIn};
+ghost use Rattle.golden_commands.specs.inside.Bridges.{HaveModels};
 ghost use Rattle.golden_commands.specs.Handed.{AreHandedIn};
 
 use gg_bits::Name;

@@ -2,7 +2,8 @@
 ghost use Rattle.std.specs.Prelude.{◌≡◌, ◌+◌, ◌++◌, ◌<◌, ◌^◌, ℕ, IfOk, OnOk, length, map};
 ghost use Rattle.std.specs.List.{range_with_len};
 ghost use Rattle.golden_commands.specs.Replay.{port_names};
-ghost use Rattle.golden_commands.specs.Replayed.{AreFewNames, plan_naming};
+ghost use Rattle.golden_commands.specs.inside.Replayed.{AreFewNames};
+ghost use Rattle.golden_commands.specs.Replayed.{plan_naming};
 
 use gg_bits::Name;
 use gg_cut_plan::{Channel, Listed, Machine, Plan};

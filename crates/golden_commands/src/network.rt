@@ -1,11 +1,12 @@
 //! The network of a plan: its steps, and the line of each channel.
 ghost use Rattle.std.specs.Prelude.{◌≡◌, ◌-◌, ◌<◌, ◌^◌, ◌++◌, IfOk, None, codes, decimal, length, slice_index_or, string_bytes};
-ghost use Rattle.gg_build.specs.Build.{HasBridges};
-ghost use Rattle.gg_replay.specs.Log.{AreFronts};
+ghost use Rattle.gg_build.specs.inside.Build.{HasBridges};
+ghost use Rattle.gg_replay.specs.inside.Log.{AreFronts};
 ghost use Rattle.gg_replay.specs.steps_file.Cause.{cause_text};
-ghost use Rattle.gg_io.specs.Endings.{IfRefused, PrintsOn, PrintsOrStops};
+ghost use Rattle.gg_io.specs.inside.Endings.{IfRefused, PrintsOn, PrintsOrStops};
 ghost use Rattle.golden_commands.specs.Replay.{stopped_by};
-ghost use Rattle.golden_commands.specs.Replayed.{IsNetText, IsToReplay, TellsStop, net_line, net_text};
+ghost use Rattle.golden_commands.specs.Replayed.{IsNetText, TellsStop, net_line, net_text};
+ghost use Rattle.golden_commands.specs.inside.Replayed.{IsToReplay};
 ghost use Rattle.gg_io.specs.Ends.{puts_of};
 ghost use Rattle.gg_io.specs.WentOn.{SinkWentOn};
 

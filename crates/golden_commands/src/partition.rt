@@ -10,12 +10,13 @@ ghost use Rattle.gg_cut_plan.specs.declared.fault.CutFault.TheVariants as cut_fa
 ghost use Rattle.gg_partfile.specs.Fault as file;
 ghost use Rattle.gg_partfile.specs.Partition.{IsPartition};
 ghost use Rattle.gg_partfile.specs.declared.fault.PartFault.TheVariants as file_fault;
-ghost use Rattle.gg_io.specs.Endings.{IfRefused, IsRefusedBy};
+ghost use Rattle.gg_io.specs.inside.Endings.{IfRefused, IsRefusedBy};
 ghost use Rattle.golden_commands.specs.Handed.{AreHandedIn};
 ghost use Rattle.gg_bits.specs.Limits.{partition_limit};
 ghost use Rattle.golden_commands.specs.Lines.{partition_fault};
 ghost use Rattle.gg_io.specs.Order.{CanBe};
-ghost use Rattle.golden_commands.specs.Partition.{Cuts, partition_file_of};
+ghost use Rattle.golden_commands.specs.Partition.{Cuts};
+ghost use Rattle.golden_commands.specs.inside.Partition.{partition_file_of};
 ghost use Rattle.gg_io.specs.Ends.{loads_of};
 ghost use Rattle.gg_io.specs.WentOn.{ShelfWentOn};
 

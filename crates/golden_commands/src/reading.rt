@@ -11,9 +11,10 @@ ghost use Rattle.gg_trace.specs.FaultText.{fault_words};
 ghost use Rattle.gg_trace.specs.Trace.{HaveWidths};
 ghost use Rattle.golden_commands.specs.Lines.{circuit_fault, trace_fault};
 ghost use Rattle.gg_io.specs.Order.{CanBe};
-ghost use Rattle.golden_commands.specs.Run.{TellsTraceOf, circuit_file, trace_file_of};
+ghost use Rattle.golden_commands.specs.Run.{TellsTraceOf, circuit_file};
+ghost use Rattle.golden_commands.specs.inside.Run.{trace_file_of};
 ghost use Rattle.golden_commands.specs.RunText.{FeedsOnly, fed_ports};
-ghost use Rattle.gg_io.specs.Endings.{IfRefused, IsRefusedBy};
+ghost use Rattle.gg_io.specs.inside.Endings.{IfRefused, IsRefusedBy};
 ghost use Rattle.gg_io.specs.Ends.{loads_of};
 ghost use Rattle.gg_io.specs.WentOn.{ShelfWentOn};
 

@@ -2,7 +2,7 @@
 ghost use Rattle.std.specs.Prelude.{◌≡◌, ◌≢◌, ◌++◌, ◌∷◌, IfOk, codes, decimal, string_bytes};
 ghost use Rattle.gg_snap.specs.text.FaultText.{fault_words};
 ghost use Rattle.gg_snap.specs.declared.text.fault.SnapFault.TheVariants.{NoMemory};
-ghost use Rattle.gg_io.specs.Endings.{IfRefused};
+ghost use Rattle.gg_io.specs.inside.Endings.{IfRefused};
 ghost use Rattle.golden_commands.specs.Lines.{few_rows, snap_fault};
 
 use gg_io::{Ending, end_with, make_refusal, text_with_number};

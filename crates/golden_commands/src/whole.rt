@@ -1,7 +1,9 @@
 //! The reference circuit of a case with the models of its bridges.
 ghost use Rattle.std.specs.Prelude.{◌≡◌, List, ℕ, All, IfOk, Some};
-ghost use Rattle.gg_bridge.specs.Ports.{CanStand, joined_at};
-ghost use Rattle.gg_cut_reference.specs.whole.Whole.{CanStandAll, plan_circuit, with_bridges};
+ghost use Rattle.gg_bridge.specs.inside.Ports.{CanStand};
+ghost use Rattle.gg_bridge.specs.Ports.{joined_at};
+ghost use Rattle.gg_cut_reference.specs.inside.Whole.{CanStandAll};
+ghost use Rattle.gg_cut_reference.specs.whole.Whole.{plan_circuit, with_bridges};
 ghost use Rattle.gg_cut_plan.specs.Bridges.{model_of};
 ghost use Rattle.gg_cut_plan.specs.Listed.{place_of};
 ghost use Rattle.gg_cut_plan.specs.Models.{model_names};

@@ -1,14 +1,16 @@
 //! Printing of the run of a circuit from the network of a plan.
 ghost use Rattle.std.specs.Prelude.{◌≡◌, ◌≤◌, ℕ, List, IfOk, length};
 ghost use Rattle.gg_cut_reference.specs.whole.Whole.{plan_circuit};
-ghost use Rattle.gg_build.specs.Build.{HasBridges};
+ghost use Rattle.gg_build.specs.inside.Build.{HasBridges};
 ghost use Rattle.gg_cut_plan.specs.Seated.{first_kept_tray, plan_bridges};
-ghost use Rattle.gg_rows.specs.Printed.{AreKept, out_columns, plan_stops, rows_to, text_of};
-ghost use Rattle.gg_io.specs.Endings.{PrintsOn};
+ghost use Rattle.gg_rows.specs.Printed.{AreKept, plan_stops};
+ghost use Rattle.gg_rows.specs.inside.Printed.{out_columns, rows_to, text_of};
+ghost use Rattle.gg_io.specs.inside.Endings.{PrintsOn};
 ghost use Rattle.gg_io.specs.WentOn.{SinkWentOn};
-ghost use Rattle.golden_commands.specs.Case.{IsFed, PrintsFedByNetwork};
+ghost use Rattle.golden_commands.specs.Case.{IsFed};
+ghost use Rattle.golden_commands.specs.inside.Case.{PrintsFedByNetwork};
 ghost use Rattle.golden_commands.specs.Partition.{to_run};
-ghost use Rattle.golden_commands.specs.Replayed.{IsToReplay};
+ghost use Rattle.golden_commands.specs.inside.Replayed.{IsToReplay};
 
 use crate::case::Fed;
 use crate::ports::shown_ports;

@@ -1,7 +1,7 @@
 //! The words of a call that aren't a command.
 ghost use Rattle.std.specs.Prelude.{◌≡◌, ◌≢◌, ◌++◌, IfOk, string_bytes};
 ghost use Rattle.gg_io.specs.Said.{line_of};
-ghost use Rattle.gg_io.specs.Endings.{IfRefused};
+ghost use Rattle.gg_io.specs.inside.Endings.{IfRefused};
 ghost use Rattle.golden_commands.specs.Lines.{bad_number, cause_text, refused_words, unexpected_word, usage};
 ghost use Rattle.golden_commands.specs.Words.{TellsWords};
 ghost use Rattle.gg_words.specs.declared.command.WordFault.{WordFault};

@@ -17,12 +17,13 @@ use Rattle.gg_flat.specs.State.{State, taken_value}
 use Rattle.gg_flat.specs.WellFormed.{IsWellFormed, MayDrive, IsRegister, IsClock}
 use Rattle.gg_bits.proofs.PathLemmas.{missing-path}
 use Rattle.gg_bridge.specs.Joined.{copy_line}
-use Rattle.gg_bridge.specs.Model.{IsModel, IsSaid, IsAnswer}
+use Rattle.gg_bridge.specs.Model.{IsModel}
+use Rattle.gg_bridge.specs.inside.Model.{IsSaid, IsAnswer}
 use Rattle.gg_bridge.proofs.FormedLemmas.{copy-source}
 use Rattle.gg_bridge.proofs.NumberLemmas.{behind-first, behind-once}
 use Rattle.gg_bridge.proofs.RunLemmas.{copy-value}
 use Rattle.golden_fifo.specs.declared.model.Place.{Place}
-use Rattle.golden_fifo.specs.Fifo.{fifo_piece, fifo_registers, fifo_state, next_place, taking}
+use Rattle.golden_fifo.specs.inside.Fifo.{fifo_piece, fifo_registers, fifo_state, next_place, taking}
 
 -- ---- paths that differ
 

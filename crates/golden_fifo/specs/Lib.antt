@@ -1,1 +1,1 @@
-pub mod Fifo
+pub mod inside

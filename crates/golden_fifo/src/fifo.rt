@@ -1,7 +1,7 @@
 //! `Fifo`: a bridge that hands on what it sees, in order.
 ghost use Rattle.std.specs.Prelude.{◌≡◌, ◌≤◌, IfOk};
 ghost use Rattle.gg_bits.specs.declared.types.Kind.TheVariants.{UInt};
-ghost use Rattle.golden_fifo.specs.Fifo.{empty_place, next_place};
+ghost use Rattle.golden_fifo.specs.inside.Fifo.{empty_place, next_place};
 
 use crate::model::{Place, piece_of};
 use gg_bits::{Kind, Ty};
@@ -27,7 +27,7 @@ pub struct Fifo {
 }
 
 impl Model for Fifo {
-    ghost use Rattle.golden_fifo.specs.Fifo.{Kept, IsFifo};
+    ghost use Rattle.golden_fifo.specs.inside.Fifo.{Kept, IsFifo};
 
     ghost Value = { Kept };
 
@@ -84,7 +84,7 @@ impl Fifo {
 }
 
 impl Bridge for Fifo {
-    ghost use Rattle.golden_fifo.specs.Fifo.{fifo_piece, fifo_state};
+    ghost use Rattle.golden_fifo.specs.inside.Fifo.{fifo_piece, fifo_state};
 
     ghost piece = { λ fifo. fifo_piece fifo.bit fifo.ty };
 

@@ -1,7 +1,7 @@
 //! The model of a FIFO: its flat circuit.
 ghost use Rattle.std.specs.Prelude.{◌≡◌, ◌<◌, ◌^◌, ◌-◌, [], ◌∷◌, ◌++◌, length, IfOk, OnOk};
 ghost use Rattle.gg_bridge.specs.Joined.{copy_line};
-ghost use Rattle.golden_fifo.specs.Fifo.{fifo_piece, fifo_registers, fifo_signals, held, taking};
+ghost use Rattle.golden_fifo.specs.inside.Fifo.{fifo_piece, fifo_registers, fifo_signals, held, taking};
 
 use gg_bits::{Name, Ty};
 use gg_flat::{Driver, Line, Node, Op, Piece, Register, Reset, Signal};

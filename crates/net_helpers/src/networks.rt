@@ -1,6 +1,6 @@
 //! The network of a plan, and what a test looks at in it.
 ghost use Rattle.std.specs.Prelude.{◌≡◌, ℕ, ◌<◌, ◌≤◌, true, length};
-ghost use Rattle.gg_build.specs.Build.{IsToRun, NeedsNone};
+ghost use Rattle.gg_build.specs.inside.Build.{IsToRun, NeedsNone};
 ghost use Rattle.gg_net.specs.Network.{cycle_at};
 
 use gg_bridge::Echo;

@@ -1,6 +1,6 @@
 //! gg_cut, gg_build, gg_net and gg_memunit: networks are built, and run to their end.
 ghost use Rattle.std.specs.Prelude.{◌≡◌, ◌<◌, [], length};
-ghost use Rattle.gg_build.specs.Build.{IsToRun, NeedsNone};
+ghost use Rattle.gg_build.specs.inside.Build.{IsToRun, NeedsNone};
 ghost use Rattle.gg_cut_plan.specs.Fault.{IsSmall};
 ghost use Rattle.gg_part.specs.KeepsToTree.{KeepsToTree};
 ghost use Rattle.gg_cut_plan.specs.Held.{AreHeldOnce};

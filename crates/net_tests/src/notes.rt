@@ -1,8 +1,10 @@
 //! Hosts that note the calls by which steps are done.
 ghost use Rattle.std.specs.Prelude.{◌≡◌, ◌<◌, length, map, is_some, slice_set, IfOk};
-ghost use Rattle.gg_node.specs.Machine.{machine_at, latch_at, flag_at, missing, due};
+ghost use Rattle.gg_node.specs.Machine.{machine_at, latch_at, flag_at, missing};
+ghost use Rattle.gg_node.specs.inside.Machine.{due};
 ghost use Rattle.gg_node.specs.Token.{IsToken, IsNextState};
-ghost use Rattle.gg_node.specs.Step.{MayLatch, MayFire, MayServe, MayFinish, with_latch, with_flag, with_served, finished};
+ghost use Rattle.gg_node.specs.inside.Step.{MayLatch, MayFire, MayServe, MayFinish};
+ghost use Rattle.gg_node.specs.Step.{with_latch, with_flag, with_served, finished};
 
 use gg_node::Host;
 use std::alloc::{AllocError, Global};

@@ -1,5 +1,5 @@
 //! gg_measure: the order in which `run_to_end` does steps, as the hosts of a network see it.
-ghost use Rattle.gg_build.specs.Build.{IsToRun, NeedsNone};
+ghost use Rattle.gg_build.specs.inside.Build.{IsToRun, NeedsNone};
 
 use crate::notes::{Notes, Noting, noting_hosts};
 use gg_bridge::Echo;

@@ -1,5 +1,5 @@
 //! gg_net: steps that are refused, and runs that go on behind them.
-ghost use Rattle.gg_build.specs.Build.{IsToRun, NeedsNone};
+ghost use Rattle.gg_build.specs.inside.Build.{IsToRun, NeedsNone};
 
 use crate::measures::run_alike;
 use crate::networks::{Case, goes_once};

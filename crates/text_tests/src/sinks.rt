@@ -1,7 +1,7 @@
 //! gg_io: sinks. What puts answer, what is then written, and how the counts rise.
 ghost use Rattle.std.specs.Io.KnownBytes.{Appends};
 ghost use Rattle.std.specs.Prelude.{◌≡◌, ◌++◌, OnOk};
-ghost use Rattle.gg_io.specs.PutFail.{faults_after_put};
+ghost use Rattle.gg_io.specs.inside.PutFail.{faults_after_put};
 
 use crate::fakes::Few;
 use gg_io::{FailingPut, MemSink, PutFail, Sink, StreamSink, SureSink};

@@ -1,6 +1,6 @@
 //! gg_graph: the order and the rings of small graphs.
 ghost use Rattle.std.specs.Prelude.{◌≡◌, ℕ, ◌<◌, ◌^◌, length, take, Contains, IfSome, IfNone, ◌⊎◌};
-ghost use Rattle.gg_graph.specs.Lists.{HasTarget, HasTargetBelow, none_below_first};
+ghost use Rattle.gg_graph.specs.inside.Lists.{HasTarget, HasTargetBelow, none_below_first};
 
 use gg_graph::{Graph, Target, WalkFault, walk};
 

@@ -20,7 +20,7 @@ use Rattle.gg_part.proofs.FormedLemmas.{IsWellFormed-part}
 use Rattle.gg_cut_split.proofs.ClosedLemmas.ListLemmas.{map-cases}
 use Rattle.gg_memunit.specs.MemoryUnit.{outs_of, IsMemoryPiece}
 use Rattle.gg_memunit.proofs.UnitLemmas.{sole, of-only}
-use Rattle.gg_build.specs.plan.Alone.{IsCutAgain}
+use Rattle.gg_build.specs.inside.Alone.{IsCutAgain}
 use Rattle.gg_build.proofs.PlanLemmas.NumberLemmas.{none-in}
 use Rattle.gg_build.proofs.PlanLemmas.BackLemmas.{All-unmap, words-back}
 use Rattle.gg_build.proofs.PlanLemmas.MemoryPartLemmas.{ReaderAmong, WriterAmong, IsMemoryPart}

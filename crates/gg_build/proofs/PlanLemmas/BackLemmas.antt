@@ -7,7 +7,8 @@ use Rattle.std.proofs.lemmas.Simd.{map-map}
 use Rattle.gg_flat.specs.declared.memory.Reader.{Reader}
 use Rattle.gg_flat.specs.Line.{value_at}
 use Rattle.gg_flat.proofs.ListLemmas.{once-apart}
-use Rattle.gg_part.specs.Part.{ReadsAmong, in_whole}
+use Rattle.gg_part.specs.inside.Part.{ReadsAmong}
+use Rattle.gg_part.specs.Part.{in_whole}
 use Rattle.gg_cut_split.proofs.ClosedLemmas.ListLemmas.{map-cases}
 use Rattle.gg_flat.specs.Renaming.{renamed_reader}
 

@@ -21,7 +21,7 @@ use Rattle.gg_cut_plan.specs.Direct.{plan_hub, plan_routes}
 use Rattle.gg_cut_plan.specs.Machines.{first_source}
 use Rattle.gg_cut_plan.specs.Seated.{first_bridge, open_ins, plan_bridges, plan_wires}
 use Rattle.gg_bridge.specs.Model.{IsModel}
-use Rattle.gg_bridge.specs.Hosted.{ArePorts}
+use Rattle.gg_bridge.specs.inside.Hosted.{ArePorts}
 use Rattle.gg_cut_reference.specs.whole.Whole.{plan_circuit}
 use Rattle.gg_cut_plan.specs.Plan.{wire_at as link_at, entry_at, IsBody}
 use Rattle.gg_cut_plan.proofs.RangeLemmas.{filter-few}

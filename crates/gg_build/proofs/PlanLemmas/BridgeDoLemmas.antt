@@ -25,7 +25,8 @@ use Rattle.gg_cut_reference.specs.Made.{plan_reference}
 use Rattle.gg_cut_reference.proofs.PipeLemmas.{since-less}
 use Rattle.gg_bridge.specs.Turned.{turned}
 use Rattle.gg_bridge.specs.Hosted.{started_bridge}
-use Rattle.gg_cut_reference.specs.whole.Whole.{CanBridge, RunsModel, RunsWhole, driven_signal, model_signals, reference_rows, bridge_signal}
+use Rattle.gg_cut_reference.specs.whole.Whole.{CanBridge}
+use Rattle.gg_cut_reference.specs.inside.Whole.{RunsModel, RunsWhole, driven_signal, model_signals, reference_rows, bridge_signal}
 use Rattle.gg_node.specs.Machine.{Machine, needs_at}
 use Rattle.gg_net.specs.Network.{kind_of}
 use Rattle.gg_net.proofs.StateLemmas.{column-at}

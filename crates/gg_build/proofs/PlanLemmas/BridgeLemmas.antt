@@ -23,24 +23,26 @@ use Rattle.gg_cut_plan.specs.Direct.{Hub, is_driven, is_input, plan_hub, plan_ro
 use Rattle.gg_cut_plan.specs.Listed.{listed_of}
 use Rattle.gg_cut_plan.specs.Machines.{first_source, first_tray}
 use Rattle.gg_cut_plan.specs.Plan.{wire_at as link_at, channels_to, channels_from, entry_at, port_place, signals_of, givens_of, IsBridgeBody}
-use Rattle.gg_cut_plan.specs.Seated.{Bridges, IsDriven as IsDrivenBy, IsSeen as IsSeenBy, first_bridge, output_count, plan_bridges, plan_wires, seat_of, first_kept_tray, unseen}
+use Rattle.gg_cut_plan.specs.Seated.{Bridges, first_bridge, output_count, plan_bridges, plan_wires, seat_of, first_kept_tray, unseen}
+use Rattle.gg_cut_plan.specs.inside.Seated.{IsDriven as IsDrivenBy, IsSeen as IsSeenBy}
 use Rattle.gg_bits.specs.Lists.{number_or, count_below}
 use Rattle.gg_cut_plan.proofs.OriginLemmas.{chain-end, clash}
 use Rattle.gg_cut_plan.proofs.PathLemmas.{among-contains}
-use Rattle.gg_cut_reference.specs.fitting.Fitting.{AreFitting, IsFitting}
+use Rattle.gg_cut_reference.specs.inside.Fitting.{AreFitting, IsFitting}
 use Rattle.gg_cut_reference.proofs.FittingLemmas.AttachLemmas.{fit-count, model-is}
 use Rattle.gg_cut_reference.proofs.FittingLemmas.BridgeLemmas.{driven-by, seen-by}
 use Rattle.gg_cut_reference.proofs.FittingLemmas.PortLemmas.{driver-has, viewer-has, viewer-is}
 use Rattle.gg_cut_reference.proofs.FittingLemmas.SeatedLemmas.{seat-tray}
 use Rattle.gg_cut_split.proofs.ClosedLemmas.ListLemmas.{Somewhere, map-cases, AllPairs-map}
-use Rattle.gg_cut_routes.specs.Routes.{AreRoutes}
+use Rattle.gg_cut_routes.specs.inside.Routes.{AreRoutes}
 use Rattle.gg_cut_routes.proofs.FewLemmas.{long}
 use Rattle.gg_cut_routes.proofs.RouteLemmas.{IsBase, IsRoute, Routing, Plain, Direct, direct-given, out-routes, plain-given, route-signal, routing}
 use Rattle.gg_cut_routes.proofs.RoutedLemmas.{routed-base}
 use Rattle.gg_bridge.specs.Model.{IsModel}
-use Rattle.gg_bridge.specs.Turned.{AreAllPlaces}
-use Rattle.gg_bridge.specs.Hosted.{ArePorts}
-use Rattle.gg_cut_reference.specs.whole.Whole.{CanBridge, signal_called}
+use Rattle.gg_bridge.specs.inside.Turned.{AreAllPlaces}
+use Rattle.gg_bridge.specs.inside.Hosted.{ArePorts}
+use Rattle.gg_cut_reference.specs.whole.Whole.{CanBridge}
+use Rattle.gg_cut_reference.specs.inside.Whole.{signal_called}
 use Rattle.gg_cut_reference.proofs.FittingLemmas.LowLemmas.{wire-seated}
 use Rattle.gg_build.proofs.PlanLemmas.GivenLemmas.{entries-fit, faultless, routed}
 use Rattle.gg_build.proofs.PlanLemmas.ListedLemmas.{IsTakenBy, IsGivenBy, given-in, given-is, taken-in, taken-is}

@@ -15,8 +15,9 @@ use Rattle.gg_flat.specs.Circuit.{FlatCircuit, driver_at, readers_at, reader_at}
 use Rattle.gg_flat.specs.Reads.{NamesSignal, RegisterNames}
 use Rattle.gg_flat_tree.specs.Scoped.{reader_fields, writer_fields, memory_fields}
 use Rattle.gg_flat.specs.WellFormed.{IsWellFormed, MayDrive}
-use Rattle.gg_part.specs.Part.{IsPart, IsFrom, MemoryBelow, ReadsAmong, RegisterBelow}
-use Rattle.gg_part.specs.Choice.{NamesMemory, IsChoice}
+use Rattle.gg_part.specs.Part.{IsPart, IsFrom, MemoryBelow, RegisterBelow}
+use Rattle.gg_part.specs.inside.Part.{ReadsAmong}
+use Rattle.gg_part.specs.inside.Choice.{NamesMemory, IsChoice}
 use Rattle.gg_part.specs.declared.part.Part.{Part}
 use Rattle.gg_part.proofs.AlongLemmas.{named-in}
 use Rattle.gg_cut_split.proofs.ClosedLemmas.ListLemmas.{flattened-cases, flat_map-is}

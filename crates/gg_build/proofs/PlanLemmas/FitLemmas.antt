@@ -19,7 +19,7 @@ use Rattle.gg_cut_plan.specs.Bridges.{Models}
 use Rattle.gg_cut_plan.specs.Direct.{Hub, routes, plan_hub}
 use Rattle.gg_cut_plan.specs.Seated.{plan_wires}
 use Rattle.gg_cut_plan.specs.Plan.{wire_at as link_at, channels_to, channels_from, IsCutPart, IsBody, IsPlan}
-use Rattle.gg_cut_routes.specs.Routes.{AreRoutes}
+use Rattle.gg_cut_routes.specs.inside.Routes.{AreRoutes}
 use Rattle.gg_bridge.specs.Turned.{turned}
 use Rattle.gg_cut_reference.specs.whole.Whole.{CanBridge}
 use Rattle.gg_memunit.specs.MemoryUnit.{count_of, needs_of, ports_of}

@@ -12,11 +12,11 @@ use Rattle.gg_cut_plan.specs.Listed.{listed_of}
 use Rattle.gg_cut_plan.specs.Seated.{output_count, plan_bridges, plan_wires}
 use Rattle.gg_cut_plan.specs.Plan.{wire_at as link_at, IsPlan}
 use Rattle.gg_cut_plan.proofs.WholeFaultLemmas.{faultless-bridges, faultless-others}
-use Rattle.gg_cut_reference.specs.fitting.Fitting.{AreFitting}
+use Rattle.gg_cut_reference.specs.inside.Fitting.{AreFitting}
 use Rattle.gg_cut_reference.proofs.FittingLemmas.FittingLemmas.{all-fit}
 use Rattle.gg_cut_reference.proofs.FittingLemmas.SeatedLemmas.{seat-known}
 use Rattle.gg_cut_split.proofs.ClosedLemmas.FaultlessLemmas.{range-free, capacity-is}
-use Rattle.gg_cut_routes.specs.Routes.{AreRoutes}
+use Rattle.gg_cut_routes.specs.inside.Routes.{AreRoutes}
 use Rattle.gg_cut_routes.proofs.RoutedLemmas.{plan-routed}
 use Rattle.gg_cut_reference.specs.whole.Whole.{CanBridge}
 use Rattle.gg_cut_plan.specs.Channels.{wire}

@@ -24,9 +24,9 @@ use Rattle.gg_cut_plan.specs.Fault.{first_fault}
 use Rattle.gg_cut_plan.specs.Direct.{Hub, plan_hub}
 use Rattle.gg_cut_plan.specs.Seated.{machine_end, plan_bridges, plan_wires}
 use Rattle.gg_cut_plan.specs.Plan.{wire_at, channels_to, channels_from, IsBody}
-use Rattle.gg_cut_split.specs.closed.Apart.{AreApart, AreFew}
+use Rattle.gg_cut_split.specs.inside.Apart.{AreApart, AreFew}
 use Rattle.gg_cut_split.proofs.ClosedLemmas.FaultlessLemmas.{faultless-apart, faultless-few}
-use Rattle.gg_cut_routes.specs.Routes.{AreRoutes}
+use Rattle.gg_cut_routes.specs.inside.Routes.{AreRoutes}
 use Rattle.gg_cut_reference.specs.text.CheckText.{AreChannelNeeds}
 use Rattle.gg_cut_reference.proofs.TextLemmas.PlanLemmas.{channel-needs}
 use Rattle.gg_node.specs.Machine.{Machine, machine_at, needs_at}
@@ -35,7 +35,7 @@ use Rattle.gg_memunit.proofs.UnitLemmas.{sole}
 use Rattle.gg_net.specs.Network.{Frame, Kind, kind_of, kind_at, no_kind, wire_at as joint_at}
 use Rattle.gg_net.specs.Refusal.{Turn}
 use Rattle.gg_net.specs.markings.Marking.{Link, Layout, link_at, turns_at}
-use Rattle.gg_net.specs.markings.Fits.{AreTaken, AreTurnsOf, HasLayout, IsLinkOf, places_of}
+use Rattle.gg_net.specs.inside.Fits.{AreTaken, AreTurnsOf, HasLayout, IsLinkOf, places_of}
 use Rattle.gg_build.specs.plan.Built.{machine_in, nameless, place_in, first_token, wires_of_plan, AreBuilt, IsBuilt, IsGiven, plan_frame}
 use Rattle.gg_build.proofs.PlanLemmas.GivenLemmas.{faultless, routed}
 use Rattle.gg_build.proofs.PlanLemmas.LinkLemmas.{AreLinks, length-wires, linked}

@@ -33,17 +33,17 @@ use Rattle.gg_cut_plan.specs.Seated.{Bridges, plan_bridges, plan_wires, seat_of,
 use Rattle.gg_cut_plan.specs.Plan.{wire_at, channels_to, signals_of, IsCutPart}
 use Rattle.gg_cut_reference.proofs.FittingLemmas.LowLemmas.{signals-alike}
 use Rattle.gg_cut_split.proofs.ClosedLemmas.ListLemmas.{AllPairs-map}
-use Rattle.gg_cut_split.specs.closed.Apart.{AreApart}
+use Rattle.gg_cut_split.specs.inside.Apart.{AreApart}
 use Rattle.gg_cut_split.proofs.ClosedLemmas.KindLemmas.{outside_memory}
 use Rattle.gg_cut_split.proofs.ClosedLemmas.FaultlessLemmas.{faultless-apart}
-use Rattle.gg_cut_routes.specs.Routes.{AreRoutes}
+use Rattle.gg_cut_routes.specs.inside.Routes.{AreRoutes}
 use Rattle.gg_cut_routes.proofs.RouteLemmas.{IsBase, port-stays, route-consumer, route-signal}
 use Rattle.gg_cut_routes.proofs.RoutedLemmas.{routed-base, plan-routed}
 use Rattle.gg_memunit.specs.MemoryUnit.{count_of, needs_by, needs_of, ports_by, ports_of}
 use Rattle.gg_memunit.proofs.UnitLemmas.{of-sole}
 use Rattle.gg_node.specs.Machine.{Machine, Port, needs_at}
 use Rattle.gg_net.specs.Network.{Frame, IsAtIn}
-use Rattle.gg_net.specs.markings.Fits.{AreTurnsOf}
+use Rattle.gg_net.specs.inside.Fits.{AreTurnsOf}
 use Rattle.gg_build.specs.plan.Built.{IsMemoryOf, place_in, wires_of_plan}
 use Rattle.gg_build.proofs.PlanLemmas.NumberLemmas.{numbers-once, place-back}
 use Rattle.gg_build.proofs.PlanLemmas.LinkLemmas.{AreLinks}

@@ -25,13 +25,13 @@ use Rattle.gg_cut_plan.specs.Channels.{wire, flattened, reader_wires, writer_wir
 use Rattle.gg_cut_plan.specs.Direct.{Hub, is_driven, is_piped, plan_hub, plan_routes}
 use Rattle.gg_cut_plan.specs.Plan.{wire_at as link_at, channels_to, channels_from, signals_of, givens_of, IsInner, MakesBy, Takes, HasMemory, IsCutPart}
 use Rattle.gg_cut_plan.proofs.WireLemmas.{unit-below, unit_or_hub-below}
-use Rattle.gg_cut_split.specs.closed.Apart.{AreApart, AreFew}
+use Rattle.gg_cut_split.specs.inside.Apart.{AreApart, AreFew}
 use Rattle.gg_cut_split.proofs.ClosedLemmas.ListLemmas.{Somewhere, map-cases, flattened-in, AllPairs-append, AllPairs-map}
 use Rattle.gg_cut_split.proofs.ClosedLemmas.KindLemmas.{outside_memory, in-fields}
 use Rattle.gg_cut_split.proofs.ClosedLemmas.MakerLemmas.{find-unit, no-field-place, out-owner, takes}
 use Rattle.gg_cut_split.proofs.ClosedLemmas.WrittenLemmas.{inner-plain}
 use Rattle.gg_cut_split.proofs.ClosedLemmas.ClosedLemmas.{owner-listed, owner-unlisted}
-use Rattle.gg_cut_routes.specs.Routes.{AreRoutes}
+use Rattle.gg_cut_routes.specs.inside.Routes.{AreRoutes}
 use Rattle.gg_cut_routes.proofs.RouteLemmas.{IsBase}
 use Rattle.gg_cut_routes.proofs.PlanLemmas.{plan-base}
 use Rattle.gg_cut_routes.proofs.UnitLemmas.{ins-still}

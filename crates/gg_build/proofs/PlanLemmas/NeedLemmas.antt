@@ -20,7 +20,7 @@ use Rattle.gg_cut_plan.specs.Listed.{listed_of}
 use Rattle.gg_cut_plan.specs.Seated.{Bridges, plan_bridges, plan_wires, seated}
 use Rattle.gg_cut_plan.specs.Direct.{Hub, plan_hub, routes}
 use Rattle.gg_cut_plan.specs.Plan.{wire_at as link_at, channels_to, channels_from, signals_of, givens_of, IsCutPart, IsBody}
-use Rattle.gg_cut_routes.specs.Routes.{AreRoutes}
+use Rattle.gg_cut_routes.specs.inside.Routes.{AreRoutes}
 use Rattle.gg_bridge.specs.Turned.{turned}
 use Rattle.gg_memunit.specs.MemoryUnit.{needs_of}
 use Rattle.gg_node.specs.Machine.{Machine, needs_at}

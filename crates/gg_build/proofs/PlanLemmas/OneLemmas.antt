@@ -7,7 +7,7 @@ use Rattle.gg_cut_plan.specs.declared.listed.Listed.{Listed}
 use Rattle.gg_cut_plan.specs.declared.wires.Wire.{Wire}
 use Rattle.gg_cut_plan.specs.Listed.{listed_of}
 use Rattle.gg_cut_plan.specs.Seated.{plan_wires}
-use Rattle.gg_cut_reference.specs.text.Alike.{AreAlike}
+use Rattle.gg_cut_reference.specs.inside.Alike.{AreAlike}
 use Rattle.gg_cut_reference.proofs.TextLemmas.SameCutLemmas.{alike-is, needs-same}
 use Rattle.gg_net.specs.markings.Marking.{Link, Layout, link_at}
 use Rattle.gg_build.specs.plan.CutLayout.{IsLayoutBy, IsLayoutOf}

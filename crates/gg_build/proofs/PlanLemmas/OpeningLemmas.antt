@@ -18,7 +18,7 @@ use Rattle.gg_cut_plan.specs.Plan.{IsBody}
 use Rattle.gg_cut_split.proofs.ClosedLemmas.FaultlessLemmas.{faultless-apart, faultless-few}
 use Rattle.gg_bridge.specs.Turned.{turned}
 use Rattle.gg_node.specs.Machine.{Machine, machine_at, no_state}
-use Rattle.gg_net.specs.Net.{IsOpening}
+use Rattle.gg_net.specs.inside.Net.{IsOpening}
 use Rattle.gg_build.specs.plan.Built.{machine_in, nameless, IsBuilt, AreBuilt, IsGiven, body_start, body_state, states_of, flow_of}
 use Rattle.gg_build.proofs.PlanLemmas.GivenLemmas.{faultless, routed}
 use Rattle.gg_build.proofs.PlanLemmas.MemoryPartLemmas.{memory-part}

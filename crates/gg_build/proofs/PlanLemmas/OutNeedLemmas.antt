@@ -21,10 +21,10 @@ use Rattle.gg_cut_reference.proofs.FittingLemmas.LowLemmas.{wire-given}
 use Rattle.gg_bridge.specs.Turned.{turned}
 use Rattle.gg_cut_reference.specs.whole.Whole.{CanBridge}
 use Rattle.gg_cut_plan.specs.Plan.{wire_at, channels_to, channels_from, AreNeedsOf, IsBody, IsCutPart, NeedsIn}
-use Rattle.gg_cut_split.specs.closed.Apart.{AreApart, AreFew}
+use Rattle.gg_cut_split.specs.inside.Apart.{AreApart, AreFew}
 use Rattle.gg_cut_split.proofs.ClosedLemmas.ListLemmas.{pairs-nil}
 use Rattle.gg_cut_split.proofs.ClosedLemmas.FaultlessLemmas.{faultless-apart, faultless-few}
-use Rattle.gg_cut_routes.specs.Routes.{AreRoutes}
+use Rattle.gg_cut_routes.specs.inside.Routes.{AreRoutes}
 use Rattle.gg_memunit.specs.MemoryUnit.{needs_of}
 use Rattle.gg_memunit.proofs.UnitLemmas.{sole}
 use Rattle.gg_node.specs.Machine.{Machine, needs_at}

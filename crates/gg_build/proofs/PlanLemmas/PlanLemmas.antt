@@ -18,11 +18,12 @@ use Rattle.gg_cut_plan.proofs.WireLemmas.{all-plain}
 use Rattle.gg_cut_plan.proofs.RangeLemmas.{filter-few}
 use Rattle.gg_cut_plan.specs.declared.plan.Body.{Body}
 use Rattle.gg_cut_split.proofs.ClosedLemmas.FaultlessLemmas.{faultless-few}
-use Rattle.gg_cut_routes.specs.Routes.{AreRoutes}
+use Rattle.gg_cut_routes.specs.inside.Routes.{AreRoutes}
 use Rattle.gg_node.specs.Machine.{Machine, machine_at}
 use Rattle.gg_net.specs.Network.{IsAtIn, IsAtOut, kind_of, kind_at}
 use Rattle.gg_net.specs.Kept.{IsWired, HasNoRing}
-use Rattle.gg_build.specs.plan.Built.{machine_in, nameless, wires_of_plan, AreBuilt, IsGiven, IsListedAt, plan_frame}
+use Rattle.gg_build.specs.plan.Built.{machine_in, nameless, wires_of_plan, AreBuilt, IsGiven, plan_frame}
+use Rattle.gg_build.specs.inside.Built.{IsListedAt}
 use Rattle.gg_build.proofs.PlanLemmas.LinkLemmas.{AreLinks}
 use Rattle.gg_build.proofs.PlanLemmas.GivenLemmas.{faultless, links-of, routed}
 use Rattle.gg_build.proofs.PlanLemmas.SeatLemmas.{seated-many}

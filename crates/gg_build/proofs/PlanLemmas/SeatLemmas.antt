@@ -10,16 +10,18 @@ use Rattle.gg_cut_plan.specs.declared.listed.Listed.{Listed}
 use Rattle.gg_cut_plan.specs.declared.wires.Wire.{Wire as Link}
 use Rattle.gg_cut_plan.specs.Direct.{plan_hub, plan_routes}
 use Rattle.gg_cut_plan.specs.Listed.{listed_of}
-use Rattle.gg_cut_plan.specs.Machines.{first_source, first_tray, machine_count}
+use Rattle.gg_cut_plan.specs.Machines.{first_source, first_tray}
+use Rattle.gg_cut_plan.specs.inside.Machines.{machine_count}
 use Rattle.gg_cut_plan.specs.Plan.{channels_to, channels_from}
-use Rattle.gg_cut_plan.specs.Seated.{AreBridges, Bridges, IsKept, first_bridge, first_kept_tray, open_ins, output_count, plan_bridges, plan_wires, seat_of, seated, seated_wire, undriven, unseen}
+use Rattle.gg_cut_plan.specs.inside.Seated.{AreBridges, IsKept}
+use Rattle.gg_cut_plan.specs.Seated.{Bridges, first_bridge, first_kept_tray, open_ins, output_count, plan_bridges, plan_wires, seat_of, seated, seated_wire, undriven, unseen}
 use Rattle.gg_bits.specs.Lists.{count_below, number_or}
 use Rattle.gg_cut_reference.proofs.FittingLemmas.BridgeLemmas.{are-bridges}
 use Rattle.gg_cut_reference.proofs.FittingLemmas.CountLemmas.{before-found}
 use Rattle.gg_cut_reference.proofs.FittingLemmas.OpenLemmas.{in-place, ins-count}
 use Rattle.gg_cut_reference.proofs.FittingLemmas.SeatedLemmas.{before-strict, seat-low, seat-source, seat-tray}
 use Rattle.gg_cut_reference.proofs.FittingLemmas.WireLemmas.{from-kept, to-kept}
-use Rattle.gg_cut_routes.specs.Routes.{AreRoutes}
+use Rattle.gg_cut_routes.specs.inside.Routes.{AreRoutes}
 
 -- ---- the channels at their machines' numbers
 

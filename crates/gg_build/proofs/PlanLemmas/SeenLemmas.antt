@@ -15,7 +15,7 @@ use Rattle.gg_cut_plan.specs.Listed.{listed_of}
 use Rattle.gg_cut_plan.specs.Direct.{plan_hub}
 use Rattle.gg_cut_plan.specs.Plan.{IsCutPart}
 use Rattle.gg_cut_plan.specs.Solves.{AreRows}
-use Rattle.gg_cut_reference.specs.Reference.{with_paths}
+use Rattle.gg_cut_reference.specs.inside.Reference.{with_paths}
 use Rattle.gg_cut_plan.specs.Held.{AreHeldOnce}
 use Rattle.gg_cut_reference.specs.Made.{plan_reference, plan_seen}
 use Rattle.gg_cut_reference.proofs.PlanLemmas.{plan-part, rows-run}

@@ -7,7 +7,8 @@ use Rattle.gg_flat.specs.Circuit.{FlatCircuit}
 use Rattle.gg_flat.specs.Run.{Start, column, row_at}
 use Rattle.gg_flat.specs.State.{IsState}
 use Rattle.gg_part.specs.Part.{IsPart}
-use Rattle.gg_part.specs.PartRun.{part_columns, part_row, part_rows, part_start}
+use Rattle.gg_part.specs.inside.PartRun.{part_columns}
+use Rattle.gg_part.specs.PartRun.{part_row, part_rows, part_start}
 use Rattle.gg_part.proofs.RenameLemmas.{part_row-at}
 use Rattle.gg_cut_plan.specs.Solves.{AreRows}
 use Rattle.gg_cut_reference.proofs.ReferenceLemmas.{started-part}

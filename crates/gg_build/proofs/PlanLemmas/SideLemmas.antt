@@ -9,12 +9,13 @@ use Rattle.gg_flat.proofs.ListLemmas.{Contains-map}
 use Rattle.gg_order.specs.Design.{Ordered}
 use Rattle.gg_cut_plan.specs.declared.wires.Wire.{Wire as Link}
 use Rattle.gg_cut_plan.specs.declared.listed.Listed.{Listed}
-use Rattle.gg_cut_plan.specs.Machines.{first_source, first_tray, machine_count}
+use Rattle.gg_cut_plan.specs.Machines.{first_source, first_tray}
+use Rattle.gg_cut_plan.specs.inside.Machines.{machine_count}
 use Rattle.gg_cut_plan.specs.Channels.{wire}
 use Rattle.gg_cut_plan.specs.Direct.{Hub, routes}
 use Rattle.gg_cut_plan.specs.Plan.{wire_at as link_at, channels_to, channels_from, givens_of}
 use Rattle.gg_cut_split.proofs.ClosedLemmas.ListLemmas.{Somewhere, map-cases}
-use Rattle.gg_cut_routes.specs.Routes.{TakesOutput, AreRoutes}
+use Rattle.gg_cut_routes.specs.inside.Routes.{TakesOutput, AreRoutes}
 use Rattle.gg_build.proofs.PlanLemmas.NumberLemmas.{numbers-once, none-in, one-in}
 use Rattle.gg_build.proofs.PlanLemmas.ListedLemmas.{taken-is}
 

@@ -29,16 +29,19 @@ use Rattle.gg_cut_plan.specs.Direct.{Hub, is_piped, plan_hub, plan_routes}
 use Rattle.gg_cut_plan.specs.Plan.{wire_at as link_at, channels_to, channels_from, IsBody, IsBridgeBody}
 use Rattle.gg_cut_plan.specs.Seated.{first_bridge, first_kept_tray, open_outs, output_count, plan_bridges, plan_wires, unseen}
 use Rattle.gg_bits.specs.Lists.{count_below}
-use Rattle.gg_cut_plan.specs.Solves.{AgreesFrom, Answers, AreRows, GivesSaid, columns_of, in_order, lists_of, model_start, stream, streams, Solves}
+use Rattle.gg_cut_plan.specs.inside.Solves.{AgreesFrom, Answers, GivesSaid, in_order, lists_of, Solves}
+use Rattle.gg_cut_plan.specs.Solves.{AreRows, columns_of, model_start, stream, streams}
 use Rattle.gg_cut_reference.proofs.FittingLemmas.OpenLemmas.{outs-count, outs-place}
-use Rattle.gg_cut_routes.specs.Routes.{AreRoutes}
+use Rattle.gg_cut_routes.specs.inside.Routes.{AreRoutes}
 use Rattle.gg_cut_reference.specs.Links.{taken_as}
 use Rattle.gg_cut_reference.specs.Made.{plan_reference}
-use Rattle.gg_cut_reference.specs.Follows.{given_column, plan_token, taken_column}
+use Rattle.gg_cut_reference.specs.inside.Follows.{given_column, taken_column}
+use Rattle.gg_cut_reference.specs.Follows.{plan_token}
 use Rattle.gg_cut_reference.proofs.FollowLemmas.{column-before}
 use Rattle.gg_cut_reference.proofs.MachineLemmas.{map-agree}
 use Rattle.gg_cut_reference.proofs.PlanLemmas.{rows-follow, rows-given, rows-taken, plan-kept}
-use Rattle.gg_cut_reference.specs.whole.Whole.{CanBridge, RunsWhole, plan_circuit, reference_rows, bridge_signal}
+use Rattle.gg_cut_reference.specs.whole.Whole.{CanBridge, plan_circuit}
+use Rattle.gg_cut_reference.specs.inside.Whole.{RunsWhole, reference_rows, bridge_signal}
 use Rattle.gg_cut_reference.proofs.FittingLemmas.LowLemmas.{wire-signal}
 use Rattle.gg_build.specs.plan.Built.{IsGiven, place_in}
 use Rattle.gg_build.proofs.PlanLemmas.BridgeLemmas.{bridge-model, bridge-ports, driven_place, entry, gives-port, see-count, seen_place}

@@ -38,7 +38,8 @@ use Rattle.gg_cut_reference.specs.Follows.{plan_token}
 use Rattle.gg_cut_reference.specs.Links.{taken_as}
 use Rattle.gg_cut_reference.specs.Made.{plan_reference, plan_seen}
 use Rattle.gg_cut_reference.proofs.MachineLemmas.{map-agree}
-use Rattle.gg_cut_reference.specs.whole.Whole.{CanBridge, RunsWhole, model_first, plan_circuit, reference_rows}
+use Rattle.gg_cut_reference.specs.whole.Whole.{CanBridge, plan_circuit}
+use Rattle.gg_cut_reference.specs.inside.Whole.{RunsWhole, model_first, reference_rows}
 use Rattle.gg_cut_reference.proofs.PipeLemmas.{shifted-here, shifted-high, shifted-length}
 use Rattle.gg_cut_reference.proofs.PlanLemmas.{plan-gives, plan-kept, rows-given, rows-taken}
 use Rattle.gg_node.specs.Machine.{Machine, machine_at, no_state}
@@ -48,7 +49,7 @@ use Rattle.gg_net.proofs.StateLemmas.{column-at}
 use Rattle.gg_cut_reference.proofs.FittingLemmas.LowLemmas.{givens-alike, signals-alike, wire-given, wire-signal}
 use Rattle.gg_build.specs.plan.Built.{machine_in, nameless, first_token, wires_of_plan, IsBuilt, AreBuilt, body_rows, body_start, rows_of, body_state, states_of, flow_of, IsGiven, plan_frame}
 use Rattle.gg_cut_split.proofs.ClosedLemmas.FaultlessLemmas.{faultless-apart, faultless-few}
-use Rattle.gg_cut_routes.specs.Routes.{AreRoutes}
+use Rattle.gg_cut_routes.specs.inside.Routes.{AreRoutes}
 use Rattle.gg_build.proofs.PlanLemmas.MemoryPartLemmas.{memory-part}
 use Rattle.gg_build.proofs.PlanLemmas.LinkLemmas.{AreLinks, length-wires, linked}
 use Rattle.gg_build.proofs.PlanLemmas.ListedLemmas.{given-at, given-placed, taken-at, taken-placed}

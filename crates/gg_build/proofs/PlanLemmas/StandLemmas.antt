@@ -4,7 +4,7 @@ use Rattle.gg_flat.specs.WellFormed.{IsWellFormed}
 use Rattle.gg_flat.specs.Run.{Start}
 use Rattle.gg_order.specs.Design.{Ordered}
 use Rattle.gg_partfile.specs.declared.request.Request.{Request}
-use Rattle.gg_part.specs.Choice.{IsChoice}
+use Rattle.gg_part.specs.inside.Choice.{IsChoice}
 use Rattle.gg_part.specs.declared.part.Part.{Part}
 use Rattle.gg_part.proofs.FormedLemmas.{IsWellFormed-part}
 use Rattle.gg_cut_plan.specs.declared.plan.Body.TheVariants.{Memory}
@@ -13,12 +13,12 @@ use Rattle.gg_cut_plan.specs.Bridges.{Models}
 use Rattle.gg_cut_plan.specs.Listed.{listed_of}
 use Rattle.gg_cut_plan.specs.Direct.{plan_hub}
 use Rattle.gg_cut_plan.specs.Plan.{IsCutPart, IsBody}
-use Rattle.gg_cut_split.specs.closed.Apart.{AreApart}
+use Rattle.gg_cut_split.specs.inside.Apart.{AreApart}
 use Rattle.gg_cut_split.proofs.ClosedLemmas.FaultlessLemmas.{faultless-apart, faultless-few}
-use Rattle.gg_cut_routes.specs.Routes.{AreRoutes}
+use Rattle.gg_cut_routes.specs.inside.Routes.{AreRoutes}
 use Rattle.gg_memunit.specs.MemoryUnit.{IsMemoryPiece}
 use Rattle.gg_build.specs.plan.Built.{machine_in, nameless, IsGiven}
-use Rattle.gg_build.specs.plan.Alone.{IsCutAgain}
+use Rattle.gg_build.specs.inside.Alone.{IsCutAgain}
 use Rattle.gg_build.proofs.PlanLemmas.GivenLemmas.{faultless, routed}
 use Rattle.gg_build.proofs.PlanLemmas.MemoryPartLemmas.{memory-part}
 use Rattle.gg_build.proofs.PlanLemmas.ChosenLemmas.{chosen}

@@ -15,7 +15,7 @@ use Rattle.gg_node.specs.Machine.{Port}
 use Rattle.gg_node.specs.Step.{fields_of}
 use Rattle.gg_memunit.specs.MemoryUnit.{port_of, ports_by}
 use Rattle.gg_net.specs.Network.{Frame, IsAtIn, wire_at}
-use Rattle.gg_net.specs.markings.Fits.{AreTaken, IsTurnOf, AreTurnsOf, places_of}
+use Rattle.gg_net.specs.inside.Fits.{AreTaken, IsTurnOf, AreTurnsOf, places_of}
 use Rattle.gg_build.proofs.PlanLemmas.PortLemmas.{IsFitPort}
 use Rattle.gg_build.specs.plan.CutLayout.{channel_of, turn_of}
 use Rattle.gg_flat.specs.Renaming.{renamed_reader, renamed_writer}

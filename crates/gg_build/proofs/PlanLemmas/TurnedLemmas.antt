@@ -23,9 +23,10 @@ use Rattle.gg_order.proofs.RunsLemmas.DependLemmas.{depends-reached}
 use Rattle.gg_flat.proofs.ListLemmas.{once-apart}
 use Rattle.gg_order.proofs.RunsLemmas.UniqueLemmas.{Settled-once}
 use Rattle.gg_bridge.specs.Model.{IsModel}
-use Rattle.gg_bridge.specs.Turned.{place_in, turned, turned_back, turned_driver, turned_signal}
+use Rattle.gg_bridge.specs.Turned.{place_in, turned, turned_driver, turned_signal}
+use Rattle.gg_bridge.specs.inside.Turned.{turned_back}
 use Rattle.gg_bridge.proofs.NumberLemmas.{place-of}
-use Rattle.gg_bridge.specs.Hosted.{ArePorts}
+use Rattle.gg_bridge.specs.inside.Hosted.{ArePorts}
 use Rattle.gg_bridge.proofs.HostedLemmas.{driver-turned, shapes, turned-settled}
 use Rattle.gg_net.specs.Kept.{in_columns}
 use Rattle.gg_net.proofs.StateLemmas.{inputs-are}

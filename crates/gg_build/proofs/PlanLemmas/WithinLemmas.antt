@@ -24,14 +24,15 @@ use Rattle.gg_cut_plan.specs.Direct.{Hub, plan_hub}
 use Rattle.gg_cut_plan.specs.Seated.{plan_wires}
 use Rattle.gg_cut_plan.specs.Plan.{wire_at as link_at, IsBody}
 use Rattle.gg_cut_split.proofs.ClosedLemmas.FaultlessLemmas.{faultless-apart, faultless-few, range-free, capacity-is}
-use Rattle.gg_cut_routes.specs.Routes.{AreRoutes}
-use Rattle.gg_memunit.specs.MemoryUnit.{count_by, ports_of}
+use Rattle.gg_cut_routes.specs.inside.Routes.{AreRoutes}
+use Rattle.gg_memunit.specs.inside.MemoryUnit.{count_by}
+use Rattle.gg_memunit.specs.MemoryUnit.{ports_of}
 use Rattle.gg_memunit.proofs.PortLemmas.{count_ports}
 use Rattle.gg_memunit.proofs.UnitLemmas.{sole}
 use Rattle.gg_node.specs.Machine.{Machine, machine_at}
 use Rattle.gg_net.specs.declared.shape.Wire.{Wire}
 use Rattle.gg_net.specs.Network.{wire_at, Kind, kind_of}
-use Rattle.gg_net.specs.Net.{IsWithinLimits}
+use Rattle.gg_net.specs.inside.Net.{IsWithinLimits}
 use Rattle.gg_build.specs.plan.Built.{machine_in, nameless, wire_of, wires_of_plan, IsMemoryOf, IsBuilt, AreBuilt, IsGiven, plan_frame}
 use Rattle.gg_build.proofs.PlanLemmas.GivenLemmas.{faultless, routed}
 use Rattle.gg_build.proofs.PlanLemmas.LinkLemmas.{length-from, length-wires, wire-from}

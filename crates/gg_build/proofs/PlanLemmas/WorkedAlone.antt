@@ -13,12 +13,13 @@ use Rattle.gg_flat.specs.WellFormed.{IsClock}
 use Rattle.gg_flat.specs.Circuit.{FlatCircuit, driver_at, readers_at}
 use Rattle.gg_flat.proofs.WorkedCircuits.{one, eight}
 use Rattle.gg_flat.proofs.WorkedForms.{only, both, three, pair, single, apart}
-use Rattle.gg_part.specs.Part.{IsPart, IsFrom, IsMemoryFrom, ReadsAmong}
+use Rattle.gg_part.specs.Part.{IsPart, IsFrom, IsMemoryFrom}
+use Rattle.gg_part.specs.inside.Part.{ReadsAmong}
 use Rattle.gg_part.specs.Building.{IsHeldIn, AreHeld}
 use Rattle.gg_part.specs.declared.part.Part.{Part}
 use Rattle.gg_cut_plan.specs.declared.plan.Body.TheVariants.{Memory as Standing}
 use Rattle.gg_build.specs.plan.Built.{body_rows}
-use Rattle.gg_build.specs.plan.Alone.{IsCutAgain}
+use Rattle.gg_build.specs.inside.Alone.{IsCutAgain}
 
 abbrev memory : ℕ → ℕ → Memory
 memory addr en = record { word = eight; depth = 2; latency = Zero; readers = record { addr = addr; en = en; word = 2; clock = None } ∷ []; writers = [] }

@@ -12,7 +12,7 @@ use Rattle.gg_cut_plan.specs.declared.plan.Body.TheVariants.{Tray, Bridge}
 use Rattle.gg_cut_plan.specs.declared.plan.BridgeBody.{BridgeBody}
 use Rattle.gg_cut_plan.specs.declared.plan.Machine as planned
 use Rattle.gg_bridge.specs.Turned.{turned}
-use Rattle.gg_bridge.specs.Echo.{echo_piece, echo_state}
+use Rattle.gg_bridge.specs.inside.Echo.{echo_piece, echo_state}
 use Rattle.gg_bridge.specs.Hosted.{started_bridge}
 use Rattle.gg_node.specs.Machine.{Machine}
 use Rattle.gg_net.specs.Kept.{rows_at}

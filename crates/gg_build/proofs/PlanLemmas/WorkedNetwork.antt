@@ -6,7 +6,8 @@
 -- a tray), since the channels don't depend on it.
 use Rattle.std.proofs.Common.{◌≡◌, ℕ, List, [], ◌∷◌, Bool, true, false, Option, None, Some, get_or, refl, ap, arith}
 use Rattle.std.specs.Prelude.{codes}
-use Rattle.gg_flat.specs.Along.{rows_along, rows_from}
+use Rattle.gg_flat.specs.inside.Along.{rows_along}
+use Rattle.gg_flat.specs.Along.{rows_from}
 use Rattle.gg_flat.specs.Clock.{Ratio}
 use Rattle.gg_flat.specs.Run.{Start}
 use Rattle.gg_flat.specs.Streams.{Flow}
@@ -19,7 +20,7 @@ use Rattle.gg_cut_plan.specs.declared.plan.Machine as planned
 use Rattle.gg_cut_plan.specs.declared.plan.Channel.{Channel}
 use Rattle.gg_cut_plan.specs.declared.plan.Plan.{Plan}
 use Rattle.gg_cut_plan.proofs.WorkedPair as pair
-use Rattle.gg_fame5.specs.Machine as dataflow
+use Rattle.gg_fame5.specs.inside.Machine as dataflow
 use Rattle.gg_cut_reference.specs.Follows.{plan_start, plan_token}
 use Rattle.gg_node.specs.Machine.{Machine}
 use Rattle.gg_cut_reference.specs.Made.{plan_reference, plan_seen}

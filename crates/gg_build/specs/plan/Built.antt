@@ -3,7 +3,7 @@
 -- Source: MEMOCODE 2009 (a synchronous circuit as a network of its parts, whose streams are the circuit's own); ICCAD
 -- 2019 (units and memories of a target as models of their own, with sources for its inputs and sinks for its outputs).
 use Rattle.std.specs.List.{range_with_len}
-use Rattle.std.specs.Prelude.{◌≡◌, ℕ, suc, ◌+◌, ◌^◌, ◌<◌, ◌≤◌, ◌==◌, ◌++◌, List, [], ◌∷◌, Bool, false, if◌then◌else◌, Option, None, Some, length, map, replicate, slice_index_or, unwrap_or}
+use Rattle.std.specs.Prelude.{◌≡◌, ℕ, suc, ◌+◌, ◌<◌, ◌≤◌, ◌==◌, ◌++◌, List, [], ◌∷◌, Bool, false, if◌then◌else◌, Option, None, Some, length, map, replicate, slice_index_or, unwrap_or}
 use Rattle.gg_bits.specs.Limits.{tray_rows, cycle_limit}
 use Rattle.gg_flat.specs.Circuit.{FlatCircuit}
 use Rattle.gg_flat_tree.specs.Clocked.{clocks_from}
@@ -40,7 +40,7 @@ use Rattle.gg_node.specs.Machine.{Machine, machine_at, no_state, source_machine,
 use Rattle.gg_fame5.specs.Machine as dataflow
 use Rattle.gg_memunit.specs.MemoryUnit as memory
 use Rattle.gg_net.specs.declared.shape.Wire.{Wire}
-use Rattle.gg_net.specs.Network.{IsAtIn, IsAtOut, Kind, Frame, frame_of}
+use Rattle.gg_net.specs.Network.{Frame, frame_of}
 use Rattle.gg_net.specs.Net.{opening_net}
 
 -- a machine of a plan without a name and without channels
@@ -153,16 +153,6 @@ pub record AreBuilt (plan : Plan) (starts : Body → Start) (columns : List (Lis
 -- below n
 abbrev pub plan_frame : (token : ℕ → ℕ) → Plan → List Machine → ℕ → Frame
 plan_frame token plan machines n = frame_of (opening_net machines (wires_of_plan token plan) n)
-
--- Machine m of the network, which has this kind, has an in for each channel that the plan's machine m takes and an out
--- for each channel that it gives, in the plan's order. Each channel is connected there. Numbers of 32 bits suffice for
--- ins and outs.
-pub record IsListedAt (token : ℕ → ℕ) (plan : Plan) (m : ℕ) (kind : Kind) : Type 0 where
-  pub ins : length (machine_in plan m).ins ≡ kind.ins
-  pub into : (i : ℕ) → i < kind.ins → IsAtIn (wires_of_plan token plan) m i (value_at (machine_in plan m).ins i)
-  pub outs : length (machine_in plan m).outs ≡ kind.outs
-  pub from : (o : ℕ) → o < kind.outs → IsAtOut (wires_of_plan token plan) m o (value_at (machine_in plan m).outs o)
-  pub few : (kind.ins < 2 ^ 32) × (kind.outs < 2 ^ 32)
 
 -- ---- what the network has to do
 

@@ -78,8 +78,3 @@ pub record IsLayoutBy (design : Ordered) (request : Request) (default n : ℕ) (
 abbrev pub IsLayoutOf : Ordered → Request → ℕ → ℕ → Layout → Type 0
 IsLayoutOf design request default n layout =
     IsLayoutBy design request default n (listed_of design.tree request) (plan_wires design.circuit design.tree request) layout
-
--- all layouts of the cuts of two designs for n cycles, with one request and one default capacity, are the same
-abbrev pub HaveOneLayout : Ordered → Ordered → Request → (default n : ℕ) → Type 0
-HaveOneLayout one other request default n =
-    (layout others : Layout) → IsLayoutOf one request default n layout → IsLayoutOf other request default n others → layout ≡ others

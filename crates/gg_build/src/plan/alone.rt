@@ -1,11 +1,11 @@
 //! Laws: a listed memory can be a machine of its own.
 ghost use Rattle.std.specs.Prelude.{◌++◌, [], ◌∷◌};
 ghost use Rattle.gg_flat.specs.WellFormed.{IsWellFormed};
-ghost use Rattle.gg_part.specs.Choice.{IsChoice};
+ghost use Rattle.gg_part.specs.inside.Choice.{IsChoice};
 ghost use Rattle.gg_part.specs.declared.part.Part.{Part};
 ghost use Rattle.gg_memunit.specs.MemoryUnit.{IsMemoryPiece};
-ghost use Rattle.gg_build.specs.plan.Alone.{IsCutAgain};
-ghost use Rattle.gg_build.specs.plan.Each.{OfEachMemory};
+ghost use Rattle.gg_build.specs.inside.Alone.{IsCutAgain};
+ghost use Rattle.gg_build.specs.inside.Each.{OfEachMemory};
 
 /// The part of a listed memory is well formed. Its in-signals, its out-signals and its memory can be chosen from it as
 /// a part. If it is cut again in this way (`IsCutAgain`), the result is the piece of a memory unit, with the in-signals

@@ -5,8 +5,8 @@ ghost use Rattle.gg_flat.specs.InOrder.{IsInOrder};
 ghost use Rattle.gg_cut_plan.specs.Bridges.{model_of};
 ghost use Rattle.gg_cut_plan.specs.Plan.{entry_at};
 ghost use Rattle.gg_bridge.specs.Model.{IsModel};
-ghost use Rattle.gg_bridge.specs.Hosted.{ArePorts};
-ghost use Rattle.gg_build.specs.plan.Each.{OfEachBridge, OfEachSource, OfEachTwoBridges, OfEachUnit};
+ghost use Rattle.gg_bridge.specs.inside.Hosted.{ArePorts};
+ghost use Rattle.gg_build.specs.inside.Each.{OfEachBridge, OfEachSource, OfEachTwoBridges, OfEachUnit};
 
 use gg_cut_reference::circuit_has_ports;
 

@@ -5,16 +5,19 @@ ghost use Rattle.gg_partfile.specs.declared.request.Request.{Request};
 ghost use Rattle.gg_cut_plan.specs.Bridges.{Models};
 ghost use Rattle.gg_cut_plan.specs.declared.plan.Plan.{Plan};
 ghost use Rattle.gg_cut_plan.specs.Plan.{IsPlan};
-ghost use Rattle.gg_cut_plan.specs.Solves.{Solves, columns_of};
+ghost use Rattle.gg_cut_plan.specs.inside.Solves.{Solves};
+ghost use Rattle.gg_cut_plan.specs.Solves.{columns_of};
 ghost use Rattle.gg_cut_reference.specs.Follows.{plan_start, plan_token};
 ghost use Rattle.gg_cut_reference.specs.whole.Whole.{CanBridge};
 ghost use Rattle.gg_node.specs.Machine.{machine_at};
 ghost use Rattle.gg_node.specs.Step.{fields_of};
 ghost use Rattle.gg_net.specs.Network.{kind_at};
 ghost use Rattle.gg_net.specs.Kept.{IsWired, HasNoRing};
-ghost use Rattle.gg_net.specs.Net.{IsOpening};
-ghost use Rattle.gg_build.specs.plan.Built.{IsListedAt, no_token, wires_of_plan};
-ghost use Rattle.gg_build.specs.plan.Each.{BeginsWithZeros, OfEachNetwork, OfEachPlan, OfEachStarted};
+ghost use Rattle.gg_net.specs.inside.Net.{IsOpening};
+ghost use Rattle.gg_build.specs.inside.Built.{IsListedAt};
+ghost use Rattle.gg_build.specs.plan.Built.{no_token, wires_of_plan};
+ghost use Rattle.gg_build.specs.inside.Each.{BeginsWithZeros, OfEachNetwork};
+ghost use Rattle.gg_build.specs.plan.Each.{OfEachPlan, OfEachStarted};
 
 use gg_cut_reference::circuit_runs;
 

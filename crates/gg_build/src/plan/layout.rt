@@ -2,11 +2,12 @@
 ghost use Rattle.std.specs.Prelude.{ℕ};
 ghost use Rattle.gg_order.specs.Design.{Ordered};
 ghost use Rattle.gg_partfile.specs.declared.request.Request.{Request};
-ghost use Rattle.gg_cut_reference.specs.text.Alike.{AreAlike};
+ghost use Rattle.gg_cut_reference.specs.inside.Alike.{AreAlike};
 ghost use Rattle.gg_net.specs.markings.Marking.{Layout};
-ghost use Rattle.gg_net.specs.markings.Fits.{HasLayout};
-ghost use Rattle.gg_build.specs.plan.CutLayout.{HaveOneLayout, IsLayoutOf};
-ghost use Rattle.gg_build.specs.plan.Each.{OfEachCut};
+ghost use Rattle.gg_net.specs.inside.Fits.{HasLayout};
+ghost use Rattle.gg_build.specs.inside.CutLayout.{HaveOneLayout};
+ghost use Rattle.gg_build.specs.plan.CutLayout.{IsLayoutOf};
+ghost use Rattle.gg_build.specs.inside.Each.{OfEachCut};
 
 /// The network of a plan has the layout of its cut, wherever its machines begin and whatever token a pipe opens with.
 pub fn plan_has_layout()

@@ -2,8 +2,9 @@
 ghost use Rattle.std.specs.Prelude.{◌≤◌};
 ghost use Rattle.gg_bits.specs.Limits.{capacity_limit};
 ghost use Rattle.gg_net.specs.Kept.{Solves, IsSound};
-ghost use Rattle.gg_net.specs.Net.{IsWithinLimits};
-ghost use Rattle.gg_build.specs.plan.Each.{OfEachCut, OfEachStarted};
+ghost use Rattle.gg_net.specs.inside.Net.{IsWithinLimits};
+ghost use Rattle.gg_build.specs.inside.Each.{OfEachCut};
+ghost use Rattle.gg_build.specs.plan.Each.{OfEachStarted};
 
 use gg_cut_reference::{circuit_has_ports, circuit_runs};
 

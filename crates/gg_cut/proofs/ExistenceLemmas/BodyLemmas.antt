@@ -8,22 +8,24 @@ use Rattle.gg_part.specs.KeepsToTree.{KeepsToTree}
 use Rattle.gg_order.specs.Design.{IsDesign, Ordered}
 use Rattle.gg_part.specs.declared.part.Clocking.{Clocking}
 use Rattle.gg_part.specs.declared.part.Part.{Part}
-use Rattle.gg_part.specs.Clocking.{AreTimed, IsTimed}
+use Rattle.gg_part.specs.inside.Clocking.{AreTimed, IsTimed}
 use Rattle.gg_part.proofs.AlongLemmas.{IsInOrder-along}
 use Rattle.gg_cut_plan.specs.declared.listed.Listed.{Listed}
 use Rattle.gg_cut_plan.specs.declared.plan.Body.{Body}
 use Rattle.gg_cut_plan.specs.declared.plan.Body.TheVariants.{Cut, Memory, Source, Tray, Bridge}
 use Rattle.gg_cut_plan.specs.Alike.{AreAlike}
 use Rattle.gg_cut_plan.specs.Direct.{Hub, routes}
-use Rattle.gg_cut_plan.specs.Machines.{first_memory, first_source, first_tray, first_unit, machine_count}
-use Rattle.gg_cut_plan.specs.Plan.{IsCutBody, IsCutPart, Makes, channels_from, channels_to, givens_of, machine_clocks, signals_of}
-use Rattle.gg_cut_split.specs.closed.Apart.{AreApart}
-use Rattle.gg_cut_split.specs.again.Again.{HasSignal, IsUnitAgain, again_at, cut_wires}
-use Rattle.gg_cut_parts.specs.Domains.{AreUnitClocks}
+use Rattle.gg_cut_plan.specs.Machines.{first_memory, first_source, first_tray, first_unit}
+use Rattle.gg_cut_plan.specs.inside.Machines.{machine_count}
+use Rattle.gg_cut_plan.specs.Plan.{IsCutBody, IsCutPart, channels_from, channels_to, givens_of, machine_clocks, signals_of}
+use Rattle.gg_cut_plan.specs.inside.Plan.{Makes}
+use Rattle.gg_cut_split.specs.inside.Apart.{AreApart}
+use Rattle.gg_cut_split.specs.inside.Again.{HasSignal, IsUnitAgain, again_at, cut_wires}
+use Rattle.gg_cut_parts.specs.inside.Domains.{AreUnitClocks}
 use Rattle.gg_cut_parts.proofs.DomainTimes.{machine-timed, top-clocks, whole-timed}
 use Rattle.gg_cut_split.specs.declared.share.Share.{Share}
-use Rattle.gg_cut.specs.Made.{HasAscending, IsTimedUnit}
-use Rattle.gg_cut_parts.specs.MovedPart.{IsFollower, IsMovedPiece, IsUnitRouted, IsUnitShare}
+use Rattle.gg_cut.specs.inside.Made.{HasAscending, IsTimedUnit}
+use Rattle.gg_cut_parts.specs.inside.MovedPart.{IsFollower, IsMovedPiece, IsUnitRouted, IsUnitShare}
 use Rattle.gg_cut_parts.proofs.FollowerLemmas.{follows, ready}
 use Rattle.gg_cut_parts.proofs.MachineLemmas.{cut-part}
 use Rattle.gg_cut_parts.proofs.RoutedLemmas.{unit-share}

@@ -14,19 +14,19 @@ use Rattle.gg_flat_tree.specs.declared.tree.MemoryInstance.{MemoryInstance}
 use Rattle.gg_flat.specs.Circuit.{FlatCircuit, driver_at}
 use Rattle.gg_flat_tree.specs.Clocked.{clock_at}
 use Rattle.gg_flat_tree.specs.Tree.{IsInnermost}
-use Rattle.gg_part.specs.Domains.{FollowsInside, inner_clocks}
+use Rattle.gg_part.specs.inside.Domains.{FollowsInside, inner_clocks}
 use Rattle.gg_part.specs.KeepsToTree.{KeepsToTree}
 use Rattle.gg_order.specs.Design.{IsDesign, Ordered}
 use Rattle.gg_order.specs.Marks.{is_marked}
 use Rattle.gg_part.specs.declared.part.Clocking.{Clocking}
-use Rattle.gg_part.specs.Clocking.{clocks_of_ports}
+use Rattle.gg_part.specs.inside.Clocking.{clocks_of_ports}
 use Rattle.gg_cut_plan.specs.declared.listed.Listed.{Listed}
 use Rattle.gg_cut_plan.specs.Held.{AreHeldOnce}
 use Rattle.gg_cut_plan.proofs.OriginLemmas.{any-finds}
-use Rattle.gg_cut_split.specs.closed.Apart.{AreApart}
+use Rattle.gg_cut_split.specs.inside.Apart.{AreApart}
 use Rattle.gg_cut_split.proofs.ClosedLemmas.TreeLemmas.{innermost, innermost-one}
-use Rattle.gg_cut_split.specs.again.Again.{AreHomes}
-use Rattle.gg_cut_parts.specs.Domains.{AreUnitClocks, AreWholeClocks}
+use Rattle.gg_cut_split.specs.inside.Again.{AreHomes}
+use Rattle.gg_cut_parts.specs.inside.Domains.{AreUnitClocks, AreWholeClocks}
 use Rattle.gg_cut_parts.proofs.FollowLemmas.{ports-follow}
 use Rattle.gg_cut_parts.proofs.TableLemmas.{held-known}
 use Rattle.gg_cut.proofs.ExistenceLemmas.DecideLemmas.{Decided, IsAny, any-below}

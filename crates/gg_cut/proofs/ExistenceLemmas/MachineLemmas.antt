@@ -17,18 +17,19 @@ use Rattle.gg_cut_plan.specs.Fault.{first_fault}
 use Rattle.gg_cut_plan.specs.Held.{AreHeldOnce}
 use Rattle.gg_cut_plan.specs.Hosts.{host_of, leader}
 use Rattle.gg_cut_plan.specs.Listed.{listed_of}
-use Rattle.gg_cut_plan.specs.Machines.{machine_count}
-use Rattle.gg_cut_plan.specs.Plan.{channels_from, channels_to, cut_names}
-use Rattle.gg_cut_split.specs.closed.Apart.{AreApart}
+use Rattle.gg_cut_plan.specs.inside.Machines.{machine_count}
+use Rattle.gg_cut_plan.specs.Plan.{channels_from, channels_to}
+use Rattle.gg_cut_plan.specs.inside.Plan.{cut_names}
+use Rattle.gg_cut_split.specs.inside.Apart.{AreApart}
 use Rattle.gg_cut_split.proofs.ClosedLemmas.FaultlessLemmas.{faultless-apart}
-use Rattle.gg_cut_split.specs.again.Again.{IsUnitAgain}
+use Rattle.gg_cut_split.specs.inside.Again.{IsUnitAgain}
 use Rattle.gg_cut_split.proofs.AgainLemmas.AgainLemmas.{unit-again}
 use Rattle.gg_cut_split.proofs.AgainLemmas.PairLemmas.{paired}
-use Rattle.gg_cut_parts.specs.Domains.{AreUnitClocks}
-use Rattle.gg_cut_routes.specs.Routes.{AreRoutes}
+use Rattle.gg_cut_parts.specs.inside.Domains.{AreUnitClocks}
+use Rattle.gg_cut_routes.specs.inside.Routes.{AreRoutes}
 use Rattle.gg_cut_routes.proofs.RoutedLemmas.{plan-routed}
-use Rattle.gg_cut.specs.Made.{AreMachines, AreMachinesTo, IsMadeBody}
-use Rattle.gg_cut_parts.specs.MovedPart.{IsUnitRouted}
+use Rattle.gg_cut.specs.inside.Made.{AreMachines, AreMachinesTo, IsMadeBody}
+use Rattle.gg_cut_parts.specs.inside.MovedPart.{IsUnitRouted}
 use Rattle.gg_cut.proofs.AlikeLemmas.{machines-made, machines-more, machines-none}
 use Rattle.gg_cut_machines.proofs.HostLemmas.{leader-below}
 use Rattle.gg_cut_machines.proofs.LeaderLemmas.{leaders-first}

@@ -18,12 +18,13 @@ use Rattle.gg_flat_tree.specs.Scoped.{memory_fields}
 use Rattle.gg_flat_tree.specs.Tree.{path_at}
 use Rattle.gg_flat.specs.WellFormed.{IsClock, IsClockedMemory, IsWellFormed}
 use Rattle.gg_flat.proofs.ListLemmas.{Contains-cases, further, here, some-item}
-use Rattle.gg_part.specs.Building.{AreHeld, AreMemories, AreRegisters, AreSignals, Holds, IsDriven, IsHeldIn}
-use Rattle.gg_part.specs.Choice.{IsChoice, NamesMemory}
-use Rattle.gg_part.specs.Clocking.{AreTimed, IsTimed, LeadsTo, PortsFollow, clocks_of_ports}
+use Rattle.gg_part.specs.Building.{AreHeld, Holds, IsHeldIn}
+use Rattle.gg_part.specs.inside.Building.{AreMemories, AreRegisters, AreSignals, IsDriven}
+use Rattle.gg_part.specs.inside.Choice.{IsChoice, NamesMemory}
+use Rattle.gg_part.specs.inside.Clocking.{AreTimed, IsTimed, LeadsTo, PortsFollow, clocks_of_ports}
 use Rattle.gg_part.specs.Part.{IsFrom, IsPart, MemoryBelow, in_whole}
 use Rattle.gg_flat.specs.Renaming.{Renaming, renamed_driver, renamed_memory, renamed_register}
-use Rattle.gg_part.specs.Local.{own_by, own_memory}
+use Rattle.gg_part.specs.inside.Local.{own_by, own_memory}
 use Rattle.gg_part.proofs.BackLemmas as back
 use Rattle.gg_part.proofs.BackLemmas.{LeadsBack, register-back, register-below}
 use Rattle.gg_part.proofs.LocalLemmas.{memory-renamed, memory-below, memory-clocked, memory-follows}

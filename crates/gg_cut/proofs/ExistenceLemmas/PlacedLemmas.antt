@@ -22,11 +22,11 @@ use Rattle.gg_cut_plan.specs.Listed.{listed_of}
 use Rattle.gg_cut_plan.specs.Plan.{channels_from, channels_to, entry_at, port_place, wire_at}
 use Rattle.gg_cut_plan.specs.Seated.{Bridges, first_bridge, first_kept_tray, machine_end, plan_bridges, plan_wires, undriven, unseen}
 use Rattle.gg_cut_split.proofs.ClosedLemmas.FaultlessLemmas.{faultless-few}
-use Rattle.gg_cut_reference.specs.fitting.Fitting.{AreFitting}
+use Rattle.gg_cut_reference.specs.inside.Fitting.{AreFitting}
 use Rattle.gg_cut_reference.proofs.FittingLemmas.FittingLemmas.{all-fit}
 use Rattle.gg_cut_routes.proofs.FewLemmas.{few-machines}
 use Rattle.gg_cut_routes.proofs.RoutedLemmas.{plan-routed}
-use Rattle.gg_cut_machines.specs.Seats.{ArePlanMachines, AreSeated, AreSides, AreTakers, IsBridgeAdded, IsModelled, machine_by, one_more}
+use Rattle.gg_cut_machines.specs.inside.Seats.{ArePlanMachines, AreSeated, AreSides, AreTakers, IsBridgeAdded, IsModelled, machine_by, one_more}
 use Rattle.gg_cut_machines.proofs.PlacedLemmas.{bridge-more, counts-none, last-placed, source-less, source-more, tray-less, tray-more}
 use Rattle.gg_cut.proofs.FirstLemmas.{first-seated}
 use Rattle.gg_cut_machines.proofs.SeatLemmas.{before-few}

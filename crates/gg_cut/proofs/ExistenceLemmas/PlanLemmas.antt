@@ -24,10 +24,10 @@ use Rattle.gg_cut_plan.specs.Listed.{listed_of}
 use Rattle.gg_cut_plan.specs.Plan.{IsPlan, wire_at}
 use Rattle.gg_cut_plan.specs.Seated.{plan_wires}
 use Rattle.gg_cut_plan.proofs.WholeFaultLemmas.{faultless-bridges, faultless-others}
-use Rattle.gg_cut_routes.specs.Routes.{AreRoutes}
+use Rattle.gg_cut_routes.specs.inside.Routes.{AreRoutes}
 use Rattle.gg_cut_routes.proofs.RoutedLemmas.{plan-routed}
-use Rattle.gg_cut.specs.Made.{AreChannels, IsWired}
-use Rattle.gg_cut_machines.specs.Seats.{ArePlanMachines}
+use Rattle.gg_cut.specs.inside.Made.{AreChannels, IsWired}
+use Rattle.gg_cut_machines.specs.inside.Seats.{ArePlanMachines}
 use Rattle.gg_cut.proofs.PlanLemmas.{channels-made, machine-fit}
 use Rattle.gg_cut_machines.proofs.WireLemmas.{given-below, seated-known}
 use Rattle.gg_cut.proofs.ExistenceLemmas.FilledLemmas.{IsFilled, Something, filled}

@@ -10,21 +10,22 @@ use Rattle.std.proofs.lemmas.List.Kept.{AllPairs-filter}
 use Rattle.gg_flat.proofs.ListLemmas.{Contains-filter, Contains-map, filter-cases}
 use Rattle.gg_part.specs.KeepsToTree.{KeepsToTree}
 use Rattle.gg_order.specs.Design.{IsDesign, Ordered}
-use Rattle.gg_flat.specs.InOrder.{Precedes}
+use Rattle.gg_flat.specs.inside.InOrder.{Precedes}
 use Rattle.gg_cut_plan.specs.declared.listed.Listed.{Listed}
 use Rattle.gg_cut_plan.specs.declared.wires.Wire.{Wire}
 use Rattle.gg_cut_plan.specs.Channels.{wire, wires_of}
 use Rattle.gg_cut_plan.specs.Direct.{Hub, hub_of, is_gone, routes}
 use Rattle.gg_cut_plan.specs.Listed.{memory_owner, owner_of}
-use Rattle.gg_cut_plan.specs.Plan.{IsInner, Makes, Takes, channels_from, channels_to, givens_of, signals_of, wire_at}
-use Rattle.gg_cut_split.specs.closed.Apart.{AreApart}
+use Rattle.gg_cut_plan.specs.Plan.{IsInner, Takes, channels_from, channels_to, givens_of, signals_of, wire_at}
+use Rattle.gg_cut_plan.specs.inside.Plan.{Makes}
+use Rattle.gg_cut_split.specs.inside.Apart.{AreApart}
 use Rattle.gg_cut_split.proofs.ClosedLemmas.ChoiceLemmas.{gets-known}
 use Rattle.gg_cut_split.proofs.ClosedLemmas.ListLemmas.{map-cases}
-use Rattle.gg_cut_split.specs.Share.{IsShareOf}
-use Rattle.gg_cut_split.specs.Spread.{AreMemories, AreSignals, memories_below}
+use Rattle.gg_cut_split.specs.inside.Share.{IsShareOf}
+use Rattle.gg_cut_split.specs.inside.Spread.{AreMemories, AreSignals, memories_below}
 use Rattle.gg_cut_split.proofs.ShareLemmas.{memories-are, shared}
-use Rattle.gg_cut_routes.specs.Routes.{AreRoutes}
-use Rattle.gg_cut_routes.specs.Share.{IsPlanShare, stays_by}
+use Rattle.gg_cut_routes.specs.inside.Routes.{AreRoutes}
+use Rattle.gg_cut_routes.specs.inside.Share.{IsPlanShare, stays_by}
 use Rattle.gg_cut_routes.proofs.PlanLemmas.{hub-plan-share, other-plan-share}
 use Rattle.gg_cut.proofs.ExistenceLemmas.DecideLemmas.{Decided, all-three, either, holds, holds-true, is-below, true-holds}
 use Rattle.gg_cut.proofs.ExistenceLemmas.FilledLemmas.{has-cases}

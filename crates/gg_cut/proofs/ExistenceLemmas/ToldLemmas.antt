@@ -14,7 +14,7 @@ use Rattle.gg_cut_plan.specs.declared.plan.Body.TheVariants.{Cut, Memory, Source
 use Rattle.gg_cut_plan.specs.declared.plan.Machine.{Machine}
 use Rattle.gg_cut_plan.specs.declared.wires.Wire.{Wire}
 use Rattle.gg_cut_plan.specs.Plan.{NeedsIn, channels_from, channels_to, wire_at}
-use Rattle.gg_cut.specs.Made.{AreGiven, ArePartNeeds, ArePut, AreTold, IsFit, IsServed, IsServedBody}
+use Rattle.gg_cut.specs.inside.Made.{AreGiven, ArePartNeeds, ArePut, AreTold, IsFit, IsServed, IsServedBody}
 use Rattle.gg_cut_parts.proofs.MachineLemmas.{from-below}
 use Rattle.gg_cut.proofs.NeedLemmas.{given-cut, given-memory, given-once, part-told}
 use Rattle.gg_cut.proofs.ExistenceLemmas.FilledLemmas.{IsFilled, Something, filled, place_in, placed}

@@ -16,10 +16,11 @@ use Rattle.gg_cut_plan.specs.Listed.{place_of}
 use Rattle.gg_cut_plan.specs.Channels.{channel_names}
 use Rattle.gg_cut_plan.specs.Bridges.{Models, same_kind, same_shape, is_of_shape, port_shape, fit_ports, shapes_at, model_named, model_or}
 use Rattle.gg_bridge.specs.Model.{IsModel}
-use Rattle.gg_bridge.specs.All.{Attached, CanAttach, CanAttachEach}
+use Rattle.gg_bridge.specs.inside.All.{Attached, CanAttach, CanAttachEach}
 use Rattle.gg_flat.proofs.ListLemmas.{some-item}
 use Rattle.gg_bridge.proofs.EachLemmas.{second-once}
-use Rattle.gg_cut_reference.specs.fitting.Fitting.{IsFitting, AreFitting, attached_of, ArePortsAt, AreModels}
+use Rattle.gg_cut_reference.specs.inside.Fitting.{IsFitting, AreFitting, attached_of, ArePortsAt}
+use Rattle.gg_cut_reference.specs.fitting.Fitting.{AreModels}
 use Rattle.gg_cut_reference.proofs.FittingLemmas.FittingLemmas.{both-true}
 
 -- ---- shapes

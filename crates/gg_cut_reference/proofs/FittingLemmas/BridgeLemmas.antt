@@ -9,7 +9,8 @@ use Rattle.gg_partfile.specs.declared.request.BridgeEntry.{BridgeEntry}
 use Rattle.gg_cut_plan.specs.Listed.{is_among}
 use Rattle.gg_cut_plan.specs.declared.listed.Listed.{Listed}
 use Rattle.gg_cut_plan.proofs.PathLemmas.{first_place-Some}
-use Rattle.gg_cut_plan.specs.Seated.{Bridges, undriven, unseen, first_kept_tray, first_bridge, seat_of, AreBridges, IsSeen, IsDriven, lister, bridges_of}
+use Rattle.gg_cut_plan.specs.Seated.{Bridges, undriven, unseen, first_kept_tray, first_bridge, seat_of, lister, bridges_of}
+use Rattle.gg_cut_plan.specs.inside.Seated.{AreBridges, IsSeen, IsDriven}
 use Rattle.gg_bits.specs.Lists.{count_below, number_or}
 use Rattle.gg_cut_reference.proofs.FittingLemmas.SeatedLemmas.{seat-low, seat-source, seat-tray, before-strict}
 

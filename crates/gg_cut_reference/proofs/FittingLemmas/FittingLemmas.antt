@@ -15,7 +15,7 @@ use Rattle.gg_cut_plan.specs.Bridges.{Models, unknown_bridge, wrong_port, model_
 use Rattle.gg_cut_plan.proofs.PathLemmas.{among-contains}
 use Rattle.gg_cut_plan.proofs.FindLemmas.{none-at, none-front, none-back, none-map}
 use Rattle.gg_bridge.proofs.PairLemmas.{AllPairs-append}
-use Rattle.gg_cut_reference.specs.fitting.Fitting.{IsFitting, AreFitting}
+use Rattle.gg_cut_reference.specs.inside.Fitting.{IsFitting, AreFitting}
 
 -- ---- one name more
 

@@ -8,8 +8,10 @@ use Rattle.gg_partfile.specs.declared.request.BridgeEntry.{BridgeEntry}
 use Rattle.gg_partfile.specs.declared.request.Request.{Request}
 use Rattle.gg_cut_plan.specs.declared.listed.Listed.{Listed}
 use Rattle.gg_cut_plan.specs.Listed.{listed_of, instance_of}
-use Rattle.gg_cut_plan.specs.Plan.{cut_names, entry_at, machine_names, open_tray_names, tray_names}
-use Rattle.gg_cut_plan.specs.Seated.{Bridges, AreBridges, IsKept, undriven, unseen, first_bridge, machine_end, open_ins, open_outs, output_count, plan_bridges, seat_of}
+use Rattle.gg_cut_plan.specs.inside.Plan.{cut_names, tray_names}
+use Rattle.gg_cut_plan.specs.Plan.{entry_at, machine_names, open_tray_names}
+use Rattle.gg_cut_plan.specs.Seated.{Bridges, undriven, unseen, first_bridge, machine_end, open_ins, open_outs, output_count, plan_bridges, seat_of}
+use Rattle.gg_cut_plan.specs.inside.Seated.{AreBridges, IsKept}
 use Rattle.gg_bits.specs.Lists.{count_below}
 use Rattle.gg_cut_plan.proofs.TrayLemmas.{out-tray, halt-tray}
 use Rattle.gg_cut_reference.proofs.FittingLemmas.BridgeLemmas.{are-bridges}

@@ -2,7 +2,8 @@
 use Rattle.std.proofs.Common.{◌≡◌, ℕ, zero, suc, ◌+◌, ◌-◌, ◌<◌, ◌≤◌, Bool, true, false, nat_lt, if◌then◌else◌, Option, Some, None, refl, sym, ◌∙◌, ap, ap₂, subst, inl, inr, ◌⊎◌, arith}
 use Rattle.std.specs.Prelude.{is_none}
 use Rattle.std.proofs.lemmas.Bool.{cases_lt, lt-ltb, le-ltb}
-use Rattle.gg_cut_plan.specs.Seated.{Bridges, undriven, unseen, first_kept_tray, first_bridge, machine_end, giver_of, keeper_of, seat_of, AreBridges, IsKept}
+use Rattle.gg_cut_plan.specs.Seated.{Bridges, undriven, unseen, first_kept_tray, first_bridge, machine_end, giver_of, keeper_of, seat_of}
+use Rattle.gg_cut_plan.specs.inside.Seated.{AreBridges, IsKept}
 use Rattle.gg_bits.specs.Lists.{one_if, count_below, number_or}
 
 -- ---- how many are kept

@@ -23,8 +23,8 @@ use Rattle.gg_cut_plan.specs.declared.plan.Plan.{Plan}
 use Rattle.gg_cut_plan.specs.declared.wires.Wire.{Wire}
 use Rattle.gg_cut_reference.proofs.FittingLemmas.NameLemmas.{names-count}
 use Rattle.gg_cut_reference.specs.text.CheckText.{AreChannelNeeds, IsTextOfCut, channel_line, channel_name, channel_text, machine_line, machine_text}
-use Rattle.gg_cut_reference.specs.text.PlanText.{channel_names, line_of_channel, line_of_machine, plan_text}
-use Rattle.gg_cut_reference.specs.text.PlanText as plans
+use Rattle.gg_cut_reference.specs.inside.PlanText.{channel_names, line_of_channel, line_of_machine, plan_text}
+use Rattle.gg_cut_reference.specs.inside.PlanText as plans
 use Rattle.gg_cut_reference.proofs.TextLemmas.PlanLemmas.{channel-needs, no_machine}
 
 -- lines of items, by their places

@@ -13,7 +13,7 @@ use Rattle.gg_cut_plan.specs.Listed.{listed_of}
 use Rattle.gg_cut_plan.specs.declared.listed.Listed.{Listed}
 use Rattle.gg_cut_plan.specs.declared.wires.Wire.{Wire}
 use Rattle.gg_cut_plan.specs.Fault.{first_fault, first_fault_with}
-use Rattle.gg_cut_reference.specs.text.Alike.{AreAlike}
+use Rattle.gg_cut_reference.specs.inside.Alike.{AreAlike}
 use Rattle.gg_cut_reference.specs.text.CheckText.{AreChannelNeeds, IsCutText, IsTextOfCut, channel_text, machine_text}
 
 -- ---- ascending lists of the same numbers are equal

@@ -8,10 +8,10 @@ use Rattle.gg_flat.specs.Circuit.{FlatCircuit}
 use Rattle.gg_flat.proofs.ListLemmas.{here, further}
 use Rattle.gg_partfile.specs.declared.request.BridgeEntry.{BridgeEntry}
 use Rattle.gg_partfile.specs.Size.{all_driven, all_seen}
-use Rattle.gg_bridge.specs.All.{Attached, with_bridge, joined_all}
+use Rattle.gg_bridge.specs.inside.All.{Attached, with_bridge, joined_all}
 use Rattle.gg_bridge.specs.Joined.{without}
 use Rattle.gg_cut_plan.specs.Bridges.{Models}
-use Rattle.gg_cut_reference.specs.fitting.Fitting.{attached_of}
+use Rattle.gg_cut_reference.specs.inside.Fitting.{attached_of}
 
 -- ---- filters
 

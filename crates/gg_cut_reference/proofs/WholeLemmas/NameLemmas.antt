@@ -11,14 +11,17 @@ use Rattle.gg_flat_tree.specs.Tree.{path_at}
 use Rattle.gg_flat.proofs.ListLemmas.{here, further, Contains-cases}
 use Rattle.gg_partfile.specs.declared.request.BridgeEntry.{BridgeEntry}
 use Rattle.gg_partfile.specs.Size.{all_driven, all_seen}
-use Rattle.gg_bridge.specs.All.{Attached, with_bridge, joined_all, CanAttachAll}
-use Rattle.gg_bridge.specs.Joined.{CanJoin, joined, without}
+use Rattle.gg_bridge.specs.inside.All.{Attached, with_bridge, joined_all, CanAttachAll}
+use Rattle.gg_bridge.specs.inside.Joined.{CanJoin}
+use Rattle.gg_bridge.specs.Joined.{joined, without}
 use Rattle.gg_bridge.proofs.NumberLemmas.{left-in, left-is}
-use Rattle.gg_bridge.specs.Ports.{CanStand, IsAmong, front_of, is_path_of, is_called, first_called, seen_at, driven_at, joined_at}
+use Rattle.gg_bridge.specs.inside.Ports.{CanStand, IsAmong}
+use Rattle.gg_bridge.specs.Ports.{front_of, is_path_of, is_called, first_called, seen_at, driven_at, joined_at}
 use Rattle.gg_cut_plan.specs.Bridges.{Models, model_of}
-use Rattle.gg_cut_reference.specs.fitting.Fitting.{attached_of}
+use Rattle.gg_cut_reference.specs.inside.Fitting.{attached_of}
 use Rattle.gg_cut_reference.proofs.FittingLemmas.PortLemmas.{apart-once, back-once}
-use Rattle.gg_cut_reference.specs.whole.Whole.{CanStandAll, with_bridges}
+use Rattle.gg_cut_reference.specs.inside.Whole.{CanStandAll}
+use Rattle.gg_cut_reference.specs.whole.Whole.{with_bridges}
 
 -- ---- the first that is called so
 

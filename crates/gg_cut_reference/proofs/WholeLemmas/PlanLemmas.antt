@@ -9,8 +9,8 @@ use Rattle.gg_order.specs.Design.{Ordered}
 use Rattle.gg_partfile.specs.declared.request.BridgeEntry.{BridgeEntry}
 use Rattle.gg_partfile.specs.declared.request.Request.{Request}
 use Rattle.gg_partfile.specs.Size.{all_driven, all_seen}
-use Rattle.gg_bridge.specs.All.{Attached, CanAttachAll, joined_all}
-use Rattle.gg_bridge.specs.Joined.{HasOrder}
+use Rattle.gg_bridge.specs.inside.All.{Attached, CanAttachAll, joined_all}
+use Rattle.gg_bridge.specs.inside.Joined.{HasOrder}
 use Rattle.gg_bridge.proofs.AllLemmas.{all-formed, all-ordered}
 use Rattle.gg_bridge.proofs.EachLemmas.{each-can}
 use Rattle.gg_cut_plan.specs.Bridges.{Models, bridge_faults}
@@ -21,19 +21,21 @@ use Rattle.gg_cut_plan.specs.Fault.{first_fault}
 use Rattle.gg_bits.specs.Lists.{first_of, or_else}
 use Rattle.gg_cut_plan.specs.Listed.{listed_of}
 use Rattle.gg_cut_plan.specs.Seated.{output_count}
-use Rattle.gg_cut_split.specs.closed.Apart.{AreApart}
+use Rattle.gg_cut_split.specs.inside.Apart.{AreApart}
 use Rattle.gg_cut_split.proofs.ClosedLemmas.FaultlessLemmas.{faultless-apart}
-use Rattle.gg_cut_reference.specs.fitting.Fitting.{AreFitting, attached_of}
+use Rattle.gg_cut_reference.specs.inside.Fitting.{AreFitting, attached_of}
 use Rattle.gg_cut_reference.proofs.FittingLemmas.FittingLemmas.{all-fit}
 use Rattle.gg_cut_reference.proofs.FittingLemmas.AttachLemmas.{all-can-attach}
 use Rattle.gg_cut_routes.proofs.RouteLemmas.{IsBase}
 use Rattle.gg_cut_routes.proofs.RoutedLemmas.{routed-base}
 use Rattle.gg_cut_reference.specs.Links.{pipes_of}
-use Rattle.gg_cut_reference.specs.Made.{holder_of, keeper_of, plan_reference, views_in}
-use Rattle.gg_cut_reference.specs.Reference.{IsReference}
+use Rattle.gg_cut_reference.specs.Made.{holder_of, keeper_of, plan_reference}
+use Rattle.gg_cut_reference.specs.inside.Made.{views_in}
+use Rattle.gg_cut_reference.specs.inside.Reference.{IsReference}
 use Rattle.gg_cut_reference.proofs.HolderLemmas.{keeper-is}
 use Rattle.gg_cut_reference.proofs.WholeReference.{made, ordered, whole-formed}
-use Rattle.gg_cut_reference.specs.whole.Whole.{CanBridge, CanStandAll, driven_signal, plan_circuit, bridge_signal}
+use Rattle.gg_cut_reference.specs.whole.Whole.{CanBridge, plan_circuit}
+use Rattle.gg_cut_reference.specs.inside.Whole.{CanStandAll, driven_signal, bridge_signal}
 use Rattle.gg_cut_reference.proofs.WholeLemmas.NameLemmas.{ArePorts, with-joined, stand-all}
 use Rattle.gg_cut_reference.proofs.WholeLemmas.SeenLemmas.{driven-only, ports-at, seen-once, seen-only}
 

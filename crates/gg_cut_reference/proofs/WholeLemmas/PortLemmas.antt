@@ -14,7 +14,7 @@ use Rattle.gg_bits.proofs.PathLemmas.{found-path}
 use Rattle.gg_order.specs.Design.{Ordered}
 use Rattle.gg_partfile.specs.declared.request.Request.{Request}
 use Rattle.gg_partfile.specs.Size.{all_driven, all_seen}
-use Rattle.gg_bridge.specs.All.{Attached}
+use Rattle.gg_bridge.specs.inside.All.{Attached}
 use Rattle.gg_bridge.specs.Joined.{without}
 use Rattle.gg_bridge.proofs.NumberLemmas.{any-is, any-has}
 use Rattle.gg_cut_split.proofs.ClosedLemmas.ListLemmas.{map-cases}
@@ -23,10 +23,11 @@ use Rattle.gg_cut_plan.specs.Direct.{Hub, plan_hub}
 use Rattle.gg_cut_plan.specs.Listed.{is_among}
 use Rattle.gg_cut_plan.specs.Seated.{open_ins, open_outs, output_count}
 use Rattle.gg_cut_plan.proofs.PathLemmas.{among-contains}
-use Rattle.gg_cut_reference.specs.fitting.Fitting.{attached_of}
+use Rattle.gg_cut_reference.specs.inside.Fitting.{attached_of}
 use Rattle.gg_cut_reference.specs.Links.{taken_as}
 use Rattle.gg_cut_reference.specs.Made.{plan_reference}
-use Rattle.gg_cut_reference.specs.whole.Whole.{CanBridge, driven_signal, plan_circuit, bridge_signal}
+use Rattle.gg_cut_reference.specs.whole.Whole.{CanBridge, plan_circuit}
+use Rattle.gg_cut_reference.specs.inside.Whole.{driven_signal, bridge_signal}
 use Rattle.gg_cut_reference.proofs.WholeLemmas.LeftLemmas.{same-test, filter-at, filter-all, filter-map, ins-left, outs-left, same-clocks, drives-of, sees-of}
 use Rattle.gg_cut_reference.proofs.WholeLemmas.NameLemmas.{image-of}
 use Rattle.gg_cut_reference.proofs.WholeLemmas.PlanLemmas.{base, circuit-joined, driven-known, reference-made, seen-known, tops}

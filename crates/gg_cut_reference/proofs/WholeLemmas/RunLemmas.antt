@@ -14,18 +14,20 @@ use Rattle.gg_order.specs.Design.{Ordered}
 use Rattle.gg_part.specs.PartRun.{part_row, part_rows}
 use Rattle.gg_partfile.specs.declared.request.BridgeEntry.{BridgeEntry}
 use Rattle.gg_partfile.specs.declared.request.Request.{Request}
-use Rattle.gg_bridge.specs.All.{Attached, HasInputs, RunsAllFrom, RunsModelFrom, RunsModelsFrom, joined_all, joined_state, joined_states, with_bridge}
+use Rattle.gg_bridge.specs.inside.All.{Attached, HasInputs, RunsAllFrom, RunsModelFrom, RunsModelsFrom, joined_all, joined_states, with_bridge}
+use Rattle.gg_bridge.specs.All.{joined_state}
 use Rattle.gg_bridge.proofs.AllLemmas.{all-runs}
 use Rattle.gg_bridge.proofs.AtLemmas.{long}
 use Rattle.gg_cut_plan.specs.Bridges.{Models, model_of}
 use Rattle.gg_cut_plan.specs.Plan.{entry_at}
 use Rattle.gg_cut_plan.specs.Seated.{open_ins}
 use Rattle.gg_cut_plan.specs.Solves.{AreRows, model_start}
-use Rattle.gg_cut_reference.specs.fitting.Fitting.{attached_of}
+use Rattle.gg_cut_reference.specs.inside.Fitting.{attached_of}
 use Rattle.gg_cut_reference.specs.Made.{plan_reference}
 use Rattle.gg_cut_reference.proofs.FollowLemmas.{input-column}
 use Rattle.gg_cut_reference.proofs.ReferenceLemmas.{drop-part, later-less, later-row, part-zero, row-part}
-use Rattle.gg_cut_reference.specs.whole.Whole.{CanBridge, RunsModel, RunsWhole, driven_signal, model_signals, plan_begin, plan_circuit, bridge_signal, states_with}
+use Rattle.gg_cut_reference.specs.whole.Whole.{CanBridge, plan_begin, plan_circuit, states_with}
+use Rattle.gg_cut_reference.specs.inside.Whole.{RunsModel, RunsWhole, driven_signal, model_signals, bridge_signal}
 use Rattle.gg_cut_reference.proofs.WholeLemmas.PlanLemmas.{attach-all, circuit-formed, circuit-joined, reference-formed}
 use Rattle.gg_cut_reference.proofs.WholeLemmas.PortLemmas.{plan-ins}
 

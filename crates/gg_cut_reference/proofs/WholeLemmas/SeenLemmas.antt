@@ -15,13 +15,15 @@ use Rattle.gg_cut_plan.specs.Listed.{is_among, place_of}
 use Rattle.gg_cut_plan.specs.Channels.{channel_names}
 use Rattle.gg_cut_plan.specs.Bridges.{port_shape}
 use Rattle.gg_cut_plan.proofs.PathLemmas.{first_place-Some, first_place-None, among-contains}
-use Rattle.gg_cut_reference.specs.fitting.Fitting.{ArePortsAt}
+use Rattle.gg_cut_reference.specs.inside.Fitting.{ArePortsAt}
 use Rattle.gg_cut_reference.proofs.SeenLemmas.{taken-seen}
 use Rattle.gg_cut_routes.proofs.RouteLemmas.{IsBase}
-use Rattle.gg_cut_reference.specs.Reference.{IsReference, IsPiped, Views}
+use Rattle.gg_cut_reference.specs.inside.Reference.{IsReference, IsPiped}
+use Rattle.gg_cut_reference.specs.Reference.{Views}
 use Rattle.gg_cut_reference.specs.Links.{pipes_of, taken_as}
 use Rattle.gg_bridge.specs.Ports.{is_called}
-use Rattle.gg_cut_reference.specs.whole.Whole.{HasFreeFronts, signal_called}
+use Rattle.gg_cut_reference.specs.whole.Whole.{HasFreeFronts}
+use Rattle.gg_cut_reference.specs.inside.Whole.{signal_called}
 use Rattle.gg_cut_reference.proofs.WholeLemmas.NameLemmas.{IsOnly, called-has, has-called}
 
 -- ---- paths with a front

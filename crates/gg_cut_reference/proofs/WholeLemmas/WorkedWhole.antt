@@ -2,7 +2,7 @@
 -- found of it, and its rows. A circuit without an order.
 use Rattle.std.proofs.Common.{◌≡◌, ℕ, List, [], ◌∷◌, Some, None, map, codes, refl, ap, arith}
 use Rattle.std.specs.Prelude.{length}
-use Rattle.gg_flat.specs.Along.{rows_along}
+use Rattle.gg_flat.specs.inside.Along.{rows_along}
 use Rattle.gg_flat.specs.Circuit.{FlatCircuit}
 use Rattle.gg_flat.specs.Line.{value_at}
 use Rattle.gg_flat.specs.Order.{IsOrder}
@@ -13,13 +13,14 @@ use Rattle.gg_order.specs.Design.{Ordered}
 use Rattle.gg_partfile.specs.declared.request.BridgeEntry.{BridgeEntry}
 use Rattle.gg_partfile.specs.declared.request.Request.{Request}
 use Rattle.gg_partfile.specs.Request.{no_request}
-use Rattle.gg_bridge.specs.Echo.{echo_piece}
+use Rattle.gg_bridge.specs.inside.Echo.{echo_piece}
 use Rattle.gg_bridge.proofs.WorkedEcho.{two}
 use Rattle.gg_cut_plan.specs.Bridges.{Models}
 use Rattle.gg_cut_plan.specs.Seated.{open_ins, open_outs}
 use Rattle.gg_cut_plan.proofs.WorkedPair.{input, output}
 use Rattle.gg_order.specs.Found.{found_order}
-use Rattle.gg_cut_reference.specs.whole.Whole.{driven_signal, model_signals, plan_circuit, bridge_signal}
+use Rattle.gg_cut_reference.specs.inside.Whole.{driven_signal, model_signals, bridge_signal}
+use Rattle.gg_cut_reference.specs.whole.Whole.{plan_circuit}
 
 -- ---- two sums, of the input `x` and of its complement
 

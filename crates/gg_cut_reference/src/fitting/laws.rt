@@ -8,12 +8,13 @@ ghost use Rattle.gg_partfile.specs.declared.request.Request.{Request};
 ghost use Rattle.gg_cut_plan.specs.Listed.{listed_of};
 ghost use Rattle.gg_cut_plan.specs.declared.listed.Listed.{Listed};
 ghost use Rattle.gg_cut_plan.specs.Plan.{machine_names};
-ghost use Rattle.gg_cut_plan.specs.Seated.{Bridges, AreBridges, IsKept, IsSeen, IsDriven, undriven, unseen, bridges_of, plan_bridges, first_bridge, open_ins, seat_of, machine_end};
+ghost use Rattle.gg_cut_plan.specs.Seated.{Bridges, undriven, unseen, bridges_of, plan_bridges, first_bridge, open_ins, seat_of, machine_end};
+ghost use Rattle.gg_cut_plan.specs.inside.Seated.{AreBridges, IsKept, IsSeen, IsDriven};
 ghost use Rattle.gg_bits.specs.Lists.{count_below};
-ghost use Rattle.gg_cut_reference.specs.fitting.Fitted.{FaultlessAreFitting, FittingCanAttach};
-ghost use Rattle.gg_cut_reference.specs.fitting.Left.{LeftAreFound, StopsStandBehind, UndrivenAreUnlisted, UndrivenHaveAPlace, UnseenAreCounted, UnseenAreUnlisted, UnseenHaveAPlace};
-ghost use Rattle.gg_cut_reference.specs.fitting.Listers.{DriversListTheirInputs, ListedInputsAreDriven, ListedOutputsAreSeen, ViewersListTheirOutputs};
-ghost use Rattle.gg_cut_reference.specs.fitting.Unmoved.{BridgesAreNamed, ChannelsFromAreKept, ChannelsToAreKept, NamesAreKept};
+ghost use Rattle.gg_cut_reference.specs.inside.Fitted.{FaultlessAreFitting, FittingCanAttach};
+ghost use Rattle.gg_cut_reference.specs.inside.Left.{LeftAreFound, StopsStandBehind, UndrivenAreUnlisted, UndrivenHaveAPlace, UnseenAreCounted, UnseenAreUnlisted, UnseenHaveAPlace};
+ghost use Rattle.gg_cut_reference.specs.inside.Listers.{DriversListTheirInputs, ListedInputsAreDriven, ListedOutputsAreSeen, ViewersListTheirOutputs};
+ghost use Rattle.gg_cut_reference.specs.inside.Unmoved.{BridgesAreNamed, ChannelsFromAreKept, ChannelsToAreKept, NamesAreKept};
 
 /// Each machine has a number among all.
 pub fn seats_known()

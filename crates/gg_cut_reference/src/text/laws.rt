@@ -6,10 +6,10 @@ ghost use Rattle.gg_cut_plan.specs.Fault.{first_fault, first_fault_with};
 ghost use Rattle.gg_cut_plan.specs.Bridges.{Models};
 ghost use Rattle.gg_cut_plan.specs.Plan.{IsPlan};
 ghost use Rattle.gg_cut_plan.specs.declared.plan.Plan.{Plan};
-ghost use Rattle.gg_cut_reference.specs.text.Alike.{AreAlike};
+ghost use Rattle.gg_cut_reference.specs.inside.Alike.{AreAlike};
 ghost use Rattle.gg_cut_reference.specs.text.CheckText.{IsTextOfCut};
-ghost use Rattle.gg_cut_reference.specs.text.PlanText.{plan_text};
-ghost use Rattle.gg_cut_reference.specs.text.NeedsTold.{NeedsAreTold};
+ghost use Rattle.gg_cut_reference.specs.inside.PlanText.{plan_text};
+ghost use Rattle.gg_cut_reference.specs.inside.NeedsTold.{NeedsAreTold};
 
 /// What a channel of a plan needs is exactly what it needs in the circuit.
 pub fn needs_are_told()

@@ -2,7 +2,7 @@
 ghost use Rattle.std.specs.Prelude.{◌≡◌, ◌++◌, IfOk, OnOk, codes, decimal, string_bytes};
 ghost use Rattle.gg_bits.specs.Shape.{shape};
 ghost use Rattle.gg_cut_reference.specs.text.CheckText.{pipe_text, type_text};
-ghost use Rattle.gg_cut_reference.specs.text.PlanText.{channel_names, line_of_channel, line_of_machine, machine_names};
+ghost use Rattle.gg_cut_reference.specs.inside.PlanText.{channel_names, line_of_channel, line_of_machine, machine_names};
 
 use crate::text::names::machine_name;
 use crate::text::needs::needs_text;

@@ -1,7 +1,7 @@
 //! The names of a plan's machines and channels, by number.
 ghost use Rattle.std.specs.Prelude.{◌≡◌};
 ghost use Rattle.gg_flat_tree.specs.Tree.{path_at};
-ghost use Rattle.gg_cut_reference.specs.text.PlanText.{channel_names, machine_names};
+ghost use Rattle.gg_cut_reference.specs.inside.PlanText.{channel_names, machine_names};
 
 use gg_cut_plan::{Channel, Machine};
 

@@ -2,7 +2,7 @@
 ghost use Rattle.std.specs.Prelude.{◌≡◌, IfOk, map, string_bytes};
 ghost use Rattle.gg_flat_tree.specs.Tree.{path_at};
 ghost use Rattle.gg_cut_reference.specs.text.CheckText.{needs_text, spaced};
-ghost use Rattle.gg_cut_reference.specs.text.PlanText.{channel_names};
+ghost use Rattle.gg_cut_reference.specs.inside.PlanText.{channel_names};
 
 use crate::text::names::channel_name;
 use gg_cut_plan::Channel;

@@ -3,12 +3,13 @@ ghost use Rattle.std.specs.Prelude.{◌≡◌};
 ghost use Rattle.gg_flat.specs.WellFormed.{IsWellFormed};
 ghost use Rattle.gg_order.specs.Design.{Ordered};
 ghost use Rattle.gg_partfile.specs.declared.request.Request.{Request};
-ghost use Rattle.gg_bridge.specs.Joined.{HasOrder};
+ghost use Rattle.gg_bridge.specs.inside.Joined.{HasOrder};
 ghost use Rattle.gg_cut_plan.specs.Bridges.{Models};
 ghost use Rattle.gg_cut_plan.specs.Seated.{open_ins};
 ghost use Rattle.gg_cut_reference.specs.Made.{plan_reference};
-ghost use Rattle.gg_cut_reference.specs.whole.Whole.{CanBridge, CanStandAll, plan_circuit};
-ghost use Rattle.gg_cut_reference.specs.whole.WholeHolds.{OutsAreKept, StartsAreTyped, WholeRunsItsParts, ZerosStay};
+ghost use Rattle.gg_cut_reference.specs.whole.Whole.{CanBridge, plan_circuit};
+ghost use Rattle.gg_cut_reference.specs.inside.Whole.{CanStandAll};
+ghost use Rattle.gg_cut_reference.specs.inside.WholeHolds.{OutsAreKept, StartsAreTyped, WholeRunsItsParts, ZerosStay};
 
 /// The circuit with the bridges' models is well formed, and has an order of evaluation.
 pub fn circuit_is_formed()

@@ -7,7 +7,7 @@ use Rattle.gg_order.specs.Design.{Ordered}
 use Rattle.gg_cut_plan.specs.declared.listed.Listed.{Listed}
 use Rattle.gg_cut_plan.specs.Machines.{unit_number}
 use Rattle.gg_cut_plan.specs.Plan.{channels_from, givens_of}
-use Rattle.gg_cut_split.specs.again.Again.{IsUnitAgain, HasSignal, again_at, cut_wires, unit_first}
+use Rattle.gg_cut_split.specs.inside.Again.{IsUnitAgain, HasSignal, again_at, cut_wires, unit_first}
 use Rattle.gg_cut_split.proofs.AgainLemmas.AtAgainLemmas.{held-behind, shifted-back}
 use Rattle.gg_cut_split.proofs.AgainLemmas.BankLemmas.{banks-too, memory-too}
 use Rattle.gg_cut_split.proofs.AgainLemmas.ChannelAgainLemmas.{channels-over}

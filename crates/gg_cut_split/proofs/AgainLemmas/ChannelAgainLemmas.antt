@@ -10,13 +10,14 @@ use Rattle.gg_part.specs.Moved.{shifted}
 use Rattle.gg_order.specs.Design.{Ordered}
 use Rattle.gg_cut_plan.specs.declared.wires.Wire.{Wire}
 use Rattle.gg_cut_plan.specs.declared.listed.Listed.{Listed}
-use Rattle.gg_cut_plan.specs.Machines.{unit_number, machine_count}
+use Rattle.gg_cut_plan.specs.Machines.{unit_number}
+use Rattle.gg_cut_plan.specs.inside.Machines.{machine_count}
 use Rattle.gg_cut_plan.specs.Plan.{wire_at, channels_to, signals_of, IsInner, Takes}
-use Rattle.gg_cut_split.specs.closed.Apart.{AreEnds}
+use Rattle.gg_cut_split.specs.inside.Apart.{AreEnds}
 use Rattle.gg_cut_split.proofs.ClosedLemmas.EndLemmas.{ends}
 use Rattle.gg_cut_split.proofs.ClosedLemmas.MakerLemmas.{HasWire, chosen-out, given-out, wire-among, no-channel}
 use Rattle.gg_cut_split.proofs.ClosedLemmas.OnceLemmas.{channel-one}
-use Rattle.gg_cut_split.specs.again.Again.{cut_wires}
+use Rattle.gg_cut_split.specs.inside.Again.{cut_wires}
 use Rattle.gg_cut_split.proofs.AgainLemmas.AtAgainLemmas.{shifted-back, held-moved, held-behind, at-again}
 use Rattle.gg_cut_split.proofs.AgainLemmas.Pair.{ArePair, AreChannelsOver, turned}
 use Rattle.gg_cut_split.proofs.AgainLemmas.TakenAgainLemmas.{ins}

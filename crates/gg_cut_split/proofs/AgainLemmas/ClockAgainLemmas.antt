@@ -12,16 +12,17 @@ use Rattle.gg_flat_tree.specs.Scoped.{IsFieldOf, memory_fields, reader_fields, w
 use Rattle.gg_flat_tree.specs.Tree.{InstanceTree, IsInnermost, IsTree, Holds, instance_at, memory_at}
 use Rattle.gg_flat.proofs.ListLemmas.{Contains-map}
 use Rattle.gg_part.specs.Copies.{LiesIn, Start}
-use Rattle.gg_part.specs.Domains.{FollowsInside, inner_clocks, ports_inside}
+use Rattle.gg_part.specs.inside.Domains.{FollowsInside, inner_clocks, ports_inside}
 use Rattle.gg_part.specs.Moved.{shifted}
 use Rattle.gg_part.proofs.DomainLemmas.{again, top-length}
 use Rattle.gg_order.specs.Design.{Ordered}
 use Rattle.gg_cut_plan.specs.declared.listed.Listed.{Listed}
 use Rattle.gg_cut_plan.specs.Machines.{unit_number}
-use Rattle.gg_cut_plan.specs.Plan.{HasMemory, Makes, machine_clocks}
+use Rattle.gg_cut_plan.specs.Plan.{HasMemory, machine_clocks}
+use Rattle.gg_cut_plan.specs.inside.Plan.{Makes}
 use Rattle.gg_cut_plan.proofs.KnownLemmas.{parents-before}
 use Rattle.gg_cut_split.proofs.ClosedLemmas.TreeLemmas.{above, innermost, lies-holder}
-use Rattle.gg_cut_split.specs.again.Again.{AreHomes, cut_wires}
+use Rattle.gg_cut_split.specs.inside.Again.{AreHomes, cut_wires}
 use Rattle.gg_cut_split.proofs.AgainLemmas.AtAgainLemmas.{held-behind, held-moved, shifted-back}
 use Rattle.gg_cut_split.proofs.AgainLemmas.BankLemmas.{own-of}
 use Rattle.gg_cut_split.proofs.AgainLemmas.FieldLemmas.{fields-again}

@@ -18,8 +18,8 @@ use Rattle.gg_cut_plan.specs.declared.listed.Listed.{Listed}
 use Rattle.gg_cut_plan.specs.Fault.{rest_behind, lacks_counterpart, lacks_in, unmatched}
 use Rattle.gg_cut_plan.specs.Listed.{is_among, listed_of}
 use Rattle.gg_cut_plan.proofs.CounterpartLemmas.{behind}
-use Rattle.gg_cut_split.specs.closed.Apart.{AreApart}
-use Rattle.gg_cut_split.specs.closed.Longest.{HoldsPath}
+use Rattle.gg_cut_split.specs.inside.Apart.{AreApart}
+use Rattle.gg_cut_split.specs.inside.Longest.{HoldsPath}
 use Rattle.gg_cut_split.proofs.ClosedLemmas.BelowLemmas.{covers-lies, lower-some, memory-covers}
 use Rattle.gg_cut_split.proofs.ClosedLemmas.HoldLemmas.{holds-some}
 use Rattle.gg_cut_split.proofs.ClosedLemmas.NameLemmas.{same-tail}

@@ -10,13 +10,14 @@ use Rattle.gg_flat.specs.Line.{value_at}
 use Rattle.gg_flat_tree.specs.Tree.{InstanceTree, IsTree, instance_at}
 use Rattle.gg_part.specs.Copies.{LiesIn, above}
 use Rattle.gg_cut_plan.specs.declared.listed.Listed.{Listed}
-use Rattle.gg_cut_plan.specs.Listed.{lies, ParentsBefore}
+use Rattle.gg_cut_plan.specs.Listed.{lies}
+use Rattle.gg_cut_plan.specs.inside.Listed.{ParentsBefore}
 use Rattle.gg_cut_plan.proofs.ChainLemmas.{lies-self}
 use Rattle.gg_cut_plan.proofs.KnownLemmas.{parents-before}
 use Rattle.gg_cut_plan.proofs.OriginLemmas.{Finds, any-finds, clash, finds-any}
-use Rattle.gg_cut_split.specs.closed.Apart.{AreApart}
+use Rattle.gg_cut_split.specs.inside.Apart.{AreApart}
 use Rattle.gg_cut_split.proofs.ClosedLemmas.TreeLemmas.{lies-up}
-use Rattle.gg_cut_split.specs.again.Again.{AreHomes}
+use Rattle.gg_cut_split.specs.inside.Again.{AreHomes}
 
 module _ (circuit : FlatCircuit) (tree : InstanceTree) (fits : IsTree circuit tree) where
   parents : ParentsBefore tree

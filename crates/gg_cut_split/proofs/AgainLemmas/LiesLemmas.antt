@@ -10,7 +10,7 @@ use Rattle.gg_part.specs.Copies.{LiesIn, above}
 use Rattle.gg_cut_plan.specs.declared.listed.Listed.{Listed}
 use Rattle.gg_cut_plan.specs.Listed.{lies, owner_of_instance, unit_or_hub}
 use Rattle.gg_cut_plan.specs.Machines.{unit_number}
-use Rattle.gg_cut_split.specs.closed.Apart.{AreApart}
+use Rattle.gg_cut_split.specs.inside.Apart.{AreApart}
 use Rattle.gg_cut_split.proofs.ClosedLemmas.TreeLemmas.{Climbs, climbs}
 use Rattle.gg_cut_split.proofs.ClosedLemmas.PlaceLemmas.{place-is, owner-within}
 

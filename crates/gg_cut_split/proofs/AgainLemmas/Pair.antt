@@ -7,12 +7,12 @@ use Rattle.gg_part.specs.Copies.{Start, IsCopy, LiesIn}
 use Rattle.gg_part.specs.KeepsToTree.{KeepsToTree}
 use Rattle.gg_part.specs.Moved.{shifted}
 use Rattle.gg_order.specs.Design.{Ordered, IsDesign}
-use Rattle.gg_cut_split.specs.closed.Apart.{AreApart}
+use Rattle.gg_cut_split.specs.inside.Apart.{AreApart}
 use Rattle.gg_cut_plan.specs.Listed.{owner_of_instance}
 use Rattle.gg_cut_plan.specs.Machines.{unit_number}
 use Rattle.gg_cut_plan.specs.Plan.{channels_from, givens_of, IsInner, Takes}
 use Rattle.gg_cut_plan.specs.declared.listed.Listed.{Listed}
-use Rattle.gg_cut_split.specs.again.Again.{cut_wires}
+use Rattle.gg_cut_split.specs.inside.Again.{cut_wires}
 
 -- the memory at a place of the tree is in the unit at place u
 abbrev pub IsInUnit : InstanceTree → Listed → ℕ → ℕ → Type 0

@@ -16,10 +16,10 @@ use Rattle.gg_cut_plan.specs.Hosts.{leader}
 use Rattle.gg_cut_plan.specs.Listed.{is_among, instance_of, listed_of}
 use Rattle.gg_cut_plan.specs.Machines.{unit_number}
 use Rattle.gg_cut_plan.proofs.FindLemmas.{none-at, none-map}
-use Rattle.gg_cut_split.specs.closed.Apart.{AreApart}
+use Rattle.gg_cut_split.specs.inside.Apart.{AreApart}
 use Rattle.gg_cut_split.proofs.ClosedLemmas.FaultlessLemmas.{no-entry-fault, faultless-apart, faultless-known}
 use Rattle.gg_cut_split.proofs.ClosedLemmas.ListedLemmas.{listed-are}
-use Rattle.gg_cut_split.specs.again.Again.{unit_first}
+use Rattle.gg_cut_split.specs.inside.Again.{unit_first}
 use Rattle.gg_cut_split.proofs.AgainLemmas.CounterpartLemmas.{inside, counterpart, memory-behind, among-too, listed-path, path-listed}
 use Rattle.gg_cut_split.proofs.AgainLemmas.GroupLemmas.{HasUnit, one-list, unit-path, entry-known, entries-one}
 use Rattle.gg_cut_split.proofs.AgainLemmas.Pair.{ArePair, IsUnitOver}

@@ -16,13 +16,14 @@ use Rattle.gg_cut_plan.specs.declared.wires.Wire.{Wire}
 use Rattle.gg_cut_plan.specs.Channels.{wire, port_wire}
 use Rattle.gg_cut_plan.specs.Listed.{owner_of}
 use Rattle.gg_cut_plan.specs.Machines.{unit_number}
-use Rattle.gg_cut_plan.specs.Plan.{Makes, Takes, IsInner}
+use Rattle.gg_cut_plan.specs.inside.Plan.{Makes}
+use Rattle.gg_cut_plan.specs.Plan.{Takes, IsInner}
 use Rattle.gg_cut_split.proofs.ClosedLemmas.KindLemmas.{outside_unit, unit-wire}
 use Rattle.gg_cut_split.proofs.ClosedLemmas.MakerLemmas.{given-out, no-channel, owner-signal}
 use Rattle.gg_cut_split.proofs.ClosedLemmas.OnceLemmas.{channel-one}
 use Rattle.gg_cut_split.proofs.ClosedLemmas.TreeLemmas.{innermost}
 use Rattle.gg_cut_split.proofs.ClosedLemmas.WrittenLemmas.{inner-plain}
-use Rattle.gg_cut_split.specs.again.Again.{cut_wires}
+use Rattle.gg_cut_split.specs.inside.Again.{cut_wires}
 use Rattle.gg_cut_split.proofs.AgainLemmas.AtAgainLemmas.{held-moved}
 use Rattle.gg_cut_split.proofs.AgainLemmas.Pair.{ArePair, AreChannelsOver}
 use Rattle.gg_cut_split.proofs.AgainLemmas.TakenLemmas.{outside-hub}

@@ -15,7 +15,7 @@ use Rattle.gg_cut_plan.specs.declared.listed.Listed.{Listed}
 use Rattle.gg_cut_plan.specs.Listed.{owner_of_instance}
 use Rattle.gg_cut_plan.specs.Machines.{unit_number}
 use Rattle.gg_cut_plan.specs.Plan.{channels_to, signals_of}
-use Rattle.gg_cut_split.specs.again.Again.{cut_wires}
+use Rattle.gg_cut_split.specs.inside.Again.{cut_wires}
 use Rattle.gg_cut_split.proofs.AgainLemmas.AscendingLemmas.{counterparts-same}
 use Rattle.gg_cut_split.proofs.AgainLemmas.FieldLemmas.{words-again}
 use Rattle.gg_cut_split.proofs.AgainLemmas.FlatLemmas.{flat-moved}

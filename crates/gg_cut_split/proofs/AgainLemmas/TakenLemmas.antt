@@ -20,7 +20,7 @@ use Rattle.gg_cut_plan.specs.Listed.{owner_of_instance}
 use Rattle.gg_cut_plan.specs.Machines.{unit_number, first_unit, first_memory, first_source, first_tray}
 use Rattle.gg_cut_plan.specs.Channels.{wire, numbered, flattened, port_wire, port_wires, reader_wires, writer_wires, field_wires, source_wires, tray_wires, wires_of}
 use Rattle.gg_cut_plan.specs.Plan.{wire_at, channels_to, signals_of}
-use Rattle.gg_cut_split.specs.closed.Apart.{AreApart}
+use Rattle.gg_cut_split.specs.inside.Apart.{AreApart}
 use Rattle.gg_cut_split.proofs.ClosedLemmas.TreeLemmas.{lies-up}
 use Rattle.gg_cut_split.proofs.ClosedLemmas.PlaceLemmas.{owner-unit, owner-outside}
 use Rattle.gg_cut_split.proofs.ClosedLemmas.KindLemmas.{outside_unit}

@@ -15,7 +15,7 @@ use Rattle.gg_cut_plan.specs.Machines.{unit_number, first_memory, first_source, 
 use Rattle.gg_cut_plan.specs.Channels.{wire, wires_of}
 use Rattle.gg_cut_plan.specs.Plan.{channels_from, givens_of, Takes}
 use Rattle.gg_cut_plan.proofs.WireLemmas.{givens-same}
-use Rattle.gg_cut_split.specs.closed.Apart.{AreApart}
+use Rattle.gg_cut_split.specs.inside.Apart.{AreApart}
 use Rattle.gg_cut_split.proofs.ClosedLemmas.TreeLemmas.{above, lies-holder}
 use Rattle.gg_cut_split.proofs.ClosedLemmas.PlaceLemmas.{owner-unit, owner-top}
 use Rattle.gg_cut_split.proofs.ClosedLemmas.KindLemmas.{IsPortWire, IsFieldWire, IsInto, IsWordWire, IsTrayWire, Kind, OfSource, OfPort, OfField, OfTray, outside_unit, outside_memory, kind-of, unit-wire, memory-wire, tray-wire}

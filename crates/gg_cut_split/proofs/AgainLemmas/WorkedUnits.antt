@@ -19,7 +19,7 @@ use Rattle.gg_cut_plan.specs.declared.listed.Listed.{Listed}
 use Rattle.gg_cut_plan.specs.Plan.{channels_to, channels_from, signals_of, givens_of}
 use Rattle.gg_cut_plan.proofs.WorkedCells as cells
 use Rattle.gg_cut_plan.proofs.WorkedPair as two
-use Rattle.gg_cut_split.specs.again.Again.{IsUnitAgain, again_at, cut_wires}
+use Rattle.gg_cut_split.specs.inside.Again.{IsUnitAgain, again_at, cut_wires}
 use Rattle.gg_flat.specs.Renaming.{numbers_by, renamed_driver}
 
 abbrev tree : InstanceTree

@@ -4,10 +4,11 @@ use Rattle.gg_flat.specs.Circuit.{FlatCircuit}
 use Rattle.gg_flat_tree.specs.Tree.{InstanceTree, IsTree, IsInnermost, IsJustBelow, path_at, instance_at, memory_at, parent_place}
 use Rattle.gg_flat_tree.specs.Scoped.{IsScoped, IsFieldOf, IsMemoryField}
 use Rattle.gg_flat.proofs.ListLemmas.{once-apart}
-use Rattle.gg_cut_plan.specs.Listed.{lies, ParentsBefore}
+use Rattle.gg_cut_plan.specs.Listed.{lies}
+use Rattle.gg_cut_plan.specs.inside.Listed.{ParentsBefore}
 use Rattle.gg_cut_plan.proofs.ChainLemmas.{lies-self}
 use Rattle.gg_cut_plan.proofs.KnownLemmas.{parents-before}
-use Rattle.gg_cut_split.specs.closed.Longest.{HoldsPath, Covers}
+use Rattle.gg_cut_split.specs.inside.Longest.{HoldsPath, Covers}
 use Rattle.gg_cut_split.proofs.ClosedLemmas.TreeLemmas.{climbs, Climbs, lies-up, above}
 use Rattle.gg_cut_split.proofs.ClosedLemmas.NameLemmas.{named}
 use Rattle.gg_cut_split.proofs.ClosedLemmas.HoldLemmas.{holds-some, holds-trans, within-held, below-held, below-covers, Fronts, Equal, Outer, Inner, fronts-of}

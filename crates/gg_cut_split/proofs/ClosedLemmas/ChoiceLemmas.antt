@@ -14,15 +14,17 @@ use Rattle.gg_flat.specs.WellFormed.{IsWellFormed, IsDataOf, MayDrive}
 use Rattle.gg_flat_tree.specs.Tree.{InstanceTree, IsTree, memory_at}
 use Rattle.gg_flat_tree.specs.Scoped.{IsScoped, IsFieldOf, memory_fields}
 use Rattle.gg_flat.proofs.ListLemmas.{Contains-map}
-use Rattle.gg_part.specs.Choice.{IsChoice, NamesMemory}
+use Rattle.gg_part.specs.inside.Choice.{IsChoice, NamesMemory}
 use Rattle.gg_cut_plan.specs.declared.wires.Wire.{Wire}
 use Rattle.gg_cut_plan.specs.declared.listed.Listed.{Listed}
 use Rattle.gg_cut_plan.specs.Machines.{first_source}
-use Rattle.gg_cut_plan.specs.Channels.{wire, wires_of, channel_signals}
-use Rattle.gg_cut_plan.specs.Plan.{wire_at, channels_to, channels_from, signals_of, givens_of, Makes, Takes, HasMemory}
+use Rattle.gg_cut_plan.specs.Channels.{wire, wires_of}
+use Rattle.gg_cut_plan.specs.inside.Channels.{channel_signals}
+use Rattle.gg_cut_plan.specs.Plan.{wire_at, channels_to, channels_from, signals_of, givens_of, Takes, HasMemory}
+use Rattle.gg_cut_plan.specs.inside.Plan.{Makes}
 use Rattle.gg_cut_plan.proofs.ChannelLemmas.{wires-signals}
 use Rattle.gg_cut_plan.proofs.KnownLemmas.{signals-known, memory-known}
-use Rattle.gg_cut_split.specs.closed.Apart.{AreApart}
+use Rattle.gg_cut_split.specs.inside.Apart.{AreApart}
 use Rattle.gg_cut_split.proofs.ClosedLemmas.ListLemmas.{Somewhere, map-cases, AllPairs-map}
 use Rattle.gg_cut_split.proofs.ClosedLemmas.TreeLemmas.{innermost-known}
 use Rattle.gg_cut_split.proofs.ClosedLemmas.OnceLemmas.{wires-once}

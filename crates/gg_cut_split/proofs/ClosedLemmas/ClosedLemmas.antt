@@ -21,9 +21,10 @@ use Rattle.gg_cut_plan.specs.declared.listed.Listed.{Listed}
 use Rattle.gg_cut_plan.specs.Listed.{owner_of_instance, memory_or, memory_owner}
 use Rattle.gg_cut_plan.specs.Machines.{first_memory, first_source}
 use Rattle.gg_cut_plan.specs.Channels.{wire, wires_of}
-use Rattle.gg_cut_plan.specs.Plan.{Makes, Takes, HasMemory}
+use Rattle.gg_cut_plan.specs.inside.Plan.{Makes}
+use Rattle.gg_cut_plan.specs.Plan.{Takes, HasMemory}
 use Rattle.gg_cut_plan.proofs.WireLemmas.{unit_or_hub-below}
-use Rattle.gg_cut_split.specs.closed.Apart.{AreApart}
+use Rattle.gg_cut_split.specs.inside.Apart.{AreApart}
 use Rattle.gg_cut_split.proofs.ClosedLemmas.ListLemmas.{Somewhere}
 use Rattle.gg_cut_split.proofs.ClosedLemmas.PlaceLemmas.{place-none, place-is}
 use Rattle.gg_cut_split.proofs.ClosedLemmas.KindLemmas.{outside_memory, source-wire, memory-wire, data-wire, addr-wire, en-wire, word-field}

@@ -11,12 +11,13 @@ use Rattle.gg_cut_plan.specs.declared.listed.Listed.{Listed}
 use Rattle.gg_cut_plan.specs.Listed.{owner_of_instance, first_place, has_signal, unit_or_hub, memory_or, memory_owner}
 use Rattle.gg_flat.specs.Circuit.{readers_at}
 use Rattle.gg_flat_tree.specs.Scoped.{memory_fields}
-use Rattle.gg_cut_plan.specs.Machines.{first_memory, machine_count}
+use Rattle.gg_cut_plan.specs.Machines.{first_memory}
+use Rattle.gg_cut_plan.specs.inside.Machines.{machine_count}
 use Rattle.gg_cut_plan.specs.Channels.{wire, wires_of}
 use Rattle.gg_cut_plan.proofs.WireLemmas.{unit-below, unit_or_hub-below, owner-below}
 use Rattle.gg_cut_plan.proofs.PathLemmas.{first_place-Some}
-use Rattle.gg_cut_split.specs.closed.Apart.{AreApart}
-use Rattle.gg_cut_split.specs.closed.Apart.{AreEnds}
+use Rattle.gg_cut_split.specs.inside.Apart.{AreApart}
+use Rattle.gg_cut_split.specs.inside.Apart.{AreEnds}
 use Rattle.gg_cut_split.proofs.ClosedLemmas.PlaceLemmas.{owner-outside}
 use Rattle.gg_cut_split.proofs.ClosedLemmas.KindLemmas.{IsInto, IsWordWire, Kind, OfSource, OfPort, OfField, OfTray, outside_unit, outside_memory, kind-of}
 

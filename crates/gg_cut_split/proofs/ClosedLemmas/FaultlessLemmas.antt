@@ -24,8 +24,8 @@ use Rattle.gg_bits.specs.Lists.{first_of}
 use Rattle.gg_cut_plan.proofs.PathLemmas.{first_place-Some}
 use Rattle.gg_cut_plan.proofs.RangeLemmas.{filter-below}
 use Rattle.gg_cut_plan.proofs.FindLemmas.{none-at, none-front, none-back, none-map}
-use Rattle.gg_cut_split.specs.closed.Apart.{AreApart}
-use Rattle.gg_cut_split.specs.closed.Apart.{AreFew}
+use Rattle.gg_cut_split.specs.inside.Apart.{AreApart}
+use Rattle.gg_cut_split.specs.inside.Apart.{AreFew}
 use Rattle.gg_cut_split.proofs.ClosedLemmas.ListLemmas.{AllPairs-map}
 use Rattle.std.specs.Prelude.{bytes_eq}
 use Rattle.std.proofs.lemmas.List.Elements.{All-map}

@@ -3,7 +3,7 @@ use Rattle.std.proofs.Common.{◌≡◌, ◌≢◌, ℕ, ◌<◌, List, [], ◌�
 use Rattle.std.specs.Prelude.{Contains}
 use Rattle.std.proofs.lemmas.List.{append_cancel_left}
 use Rattle.gg_flat_tree.specs.Tree.{IsWithin, IsJustBelow}
-use Rattle.gg_cut_split.specs.closed.Longest.{HoldsPath, Covers}
+use Rattle.gg_cut_split.specs.inside.Longest.{HoldsPath, Covers}
 use Rattle.gg_cut_split.proofs.ClosedLemmas.NameLemmas.{dot-in, same-head, same-tail}
 
 -- no path holds the empty one

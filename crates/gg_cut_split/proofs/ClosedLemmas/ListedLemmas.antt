@@ -11,7 +11,7 @@ use Rattle.gg_partfile.specs.declared.request.Request.{Request}
 use Rattle.gg_cut_plan.specs.declared.listed.Listed.{Listed}
 use Rattle.gg_cut_plan.specs.Listed.{is_among, is_lower, is_instance_path, instance_of, place_of, listed_of}
 use Rattle.gg_cut_plan.proofs.PathLemmas.{first_place-Some}
-use Rattle.gg_cut_split.specs.closed.Longest.{listed_paths}
+use Rattle.gg_cut_split.specs.inside.Longest.{listed_paths}
 use Rattle.gg_cut_split.proofs.ClosedLemmas.LongestLemmas.{ArePaths}
 
 -- an instance path is the path of the instance that it names

@@ -11,8 +11,8 @@ use Rattle.gg_flat.proofs.ListLemmas.{once-apart}
 use Rattle.gg_cut_plan.specs.declared.listed.Listed.{Listed}
 use Rattle.gg_cut_plan.specs.Listed.{lies, first_place, unit_or_hub, owner_of_instance, owner_of, has_signal, has_field, memory_or, memory_owner}
 use Rattle.gg_cut_plan.proofs.PathLemmas.{IsPlace, first_place-Some, first_place-None}
-use Rattle.gg_cut_split.specs.closed.Apart.{AreApart}
-use Rattle.gg_cut_split.specs.closed.Longest.{HoldsPath, Covers, IsLongest, IsOfLongest}
+use Rattle.gg_cut_split.specs.inside.Apart.{AreApart}
+use Rattle.gg_cut_split.specs.inside.Longest.{HoldsPath, Covers, IsLongest, IsOfLongest}
 use Rattle.gg_cut_split.proofs.ClosedLemmas.NameLemmas.{field-one}
 use Rattle.gg_cut_split.proofs.ClosedLemmas.MakerLemmas.{IsNoField, owner-signal, any-contains}
 use Rattle.gg_cut_split.proofs.ClosedLemmas.HoldLemmas.{Fronts, Equal, Outer, Inner, fronts-of, holds-shorter}

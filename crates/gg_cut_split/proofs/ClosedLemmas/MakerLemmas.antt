@@ -16,9 +16,10 @@ use Rattle.gg_cut_plan.specs.declared.listed.Listed.{Listed}
 use Rattle.gg_cut_plan.specs.Listed.{first_place, owner_of_instance, owner_of, has_field, has_signal, memory_or, unit_or_hub}
 use Rattle.gg_cut_plan.specs.Machines.{first_memory, first_source, first_tray}
 use Rattle.gg_cut_plan.specs.Channels.{wire, wires_of, port_wire}
-use Rattle.gg_cut_plan.specs.Plan.{wire_at, channels_from, signals_of, givens_of, IsInner, Makes, Takes}
+use Rattle.gg_cut_plan.specs.Plan.{wire_at, channels_from, signals_of, givens_of, IsInner, Takes}
+use Rattle.gg_cut_plan.specs.inside.Plan.{Makes}
 use Rattle.gg_cut_plan.proofs.WireLemmas.{givens-same}
-use Rattle.gg_cut_split.specs.closed.Apart.{AreApart}
+use Rattle.gg_cut_split.specs.inside.Apart.{AreApart}
 use Rattle.gg_cut_split.proofs.ClosedLemmas.ListLemmas.{Somewhere, map-cases}
 use Rattle.gg_cut_split.proofs.ClosedLemmas.TreeLemmas.{innermost-one, innermost-known}
 use Rattle.gg_cut_split.proofs.ClosedLemmas.PlaceLemmas.{IsNoUnit, place-none, owner-unit, owner-inner, owner-top, place-signal}

@@ -17,9 +17,10 @@ use Rattle.gg_cut_plan.specs.declared.listed.Listed.{Listed}
 use Rattle.gg_cut_plan.specs.Listed.{lies}
 use Rattle.gg_cut_plan.proofs.ChainLemmas.{lies-self}
 use Rattle.gg_cut_plan.proofs.KnownLemmas.{parents-before}
-use Rattle.gg_cut_plan.specs.Channels.{wires_of, port_signals, channel_signals, flattened}
+use Rattle.gg_cut_plan.specs.Channels.{wires_of, flattened}
+use Rattle.gg_cut_plan.specs.inside.Channels.{port_signals, channel_signals}
 use Rattle.gg_cut_plan.proofs.ChannelLemmas.{wires-signals}
-use Rattle.gg_cut_split.specs.closed.Apart.{AreApart}
+use Rattle.gg_cut_split.specs.inside.Apart.{AreApart}
 use Rattle.gg_cut_split.proofs.ClosedLemmas.ListLemmas.{Somewhere, map-cases, flattened-cases, AllPairs-append, AllPairs-flattened, AllPairs-map}
 use Rattle.gg_cut_split.proofs.ClosedLemmas.TreeLemmas.{innermost-one}
 use Rattle.gg_cut_split.proofs.ClosedLemmas.NameLemmas.{port-no-field, field-one}

@@ -13,7 +13,7 @@ use Rattle.gg_cut_plan.specs.declared.listed.Listed.{Listed}
 use Rattle.gg_cut_plan.specs.Listed.{first_place, unit_or_hub, owner_of, has_signal, has_field, memory_or}
 use Rattle.gg_cut_plan.specs.Machines.{first_memory}
 use Rattle.gg_cut_plan.specs.Channels.{wire, wires_of}
-use Rattle.gg_cut_split.specs.closed.Apart.{AreApart, IsOwnerAtEnd}
+use Rattle.gg_cut_split.specs.inside.Apart.{AreApart, IsOwnerAtEnd}
 use Rattle.gg_cut_split.proofs.ClosedLemmas.PlaceLemmas.{place-is, owner-unit}
 use Rattle.gg_cut_split.proofs.ClosedLemmas.KindLemmas.{IsInto, IsWordWire, Kind, OfSource, OfPort, OfField, OfTray, outside_unit, outside_memory, kind-of}
 use Rattle.gg_cut_split.proofs.ClosedLemmas.NameLemmas.{field-one}

@@ -7,10 +7,10 @@ use Rattle.gg_part.specs.KeepsToTree.{KeepsToTree}
 use Rattle.gg_order.specs.Design.{Ordered}
 use Rattle.gg_partfile.specs.declared.request.Request.{Request}
 use Rattle.gg_cut_plan.specs.Fault.{first_fault}
-use Rattle.gg_cut_plan.specs.Plan.{cut_names, tray_names}
+use Rattle.gg_cut_plan.specs.inside.Plan.{cut_names, tray_names}
 use Rattle.gg_cut_plan.specs.Listed.{is_among, listed_of, owner_of, owner_of_instance, memory_owner}
-use Rattle.gg_cut_split.specs.closed.Apart.{AreApart}
-use Rattle.gg_cut_split.specs.closed.Longest.{HoldsPath, Covers, IsOfLongest, listed_paths, IsLongestHolder, IsLongestCover}
+use Rattle.gg_cut_split.specs.inside.Apart.{AreApart}
+use Rattle.gg_cut_split.specs.inside.Longest.{HoldsPath, Covers, IsOfLongest, listed_paths, IsLongestHolder, IsLongestCover}
 use Rattle.gg_cut_split.proofs.ClosedLemmas.FaultlessLemmas.{faultless-apart, faultless-known}
 use Rattle.gg_cut_split.proofs.ClosedLemmas.TreeLemmas.{innermost}
 use Rattle.gg_cut_split.proofs.ClosedLemmas.LongestLemmas.{ArePaths, longest-one, instance-longest, signal-longest, memory-longest}

@@ -6,12 +6,13 @@ use Rattle.std.proofs.lemmas.List.Elements.{All-tail, All-head}
 use Rattle.gg_flat.specs.Line.{value_at}
 use Rattle.gg_flat.specs.Circuit.{FlatCircuit}
 use Rattle.gg_flat_tree.specs.Tree.{InstanceTree, IsTree, IsInnermost, instance_at}
-use Rattle.gg_cut_plan.specs.Listed.{lies, first_place, unit_or_hub, owner_of_instance, has_signal, ParentsBefore}
+use Rattle.gg_cut_plan.specs.Listed.{lies, first_place, unit_or_hub, owner_of_instance, has_signal}
+use Rattle.gg_cut_plan.specs.inside.Listed.{ParentsBefore}
 use Rattle.gg_cut_plan.specs.declared.listed.Listed.{Listed}
 use Rattle.gg_cut_plan.proofs.ChainLemmas.{lies-parent, lies-alone, lies-self}
 use Rattle.gg_cut_plan.proofs.KnownLemmas.{parents-before}
 use Rattle.gg_cut_plan.proofs.PathLemmas.{first_place-Some}
-use Rattle.gg_cut_split.specs.closed.Apart.{AreApart}
+use Rattle.gg_cut_split.specs.inside.Apart.{AreApart}
 use Rattle.gg_cut_split.proofs.ClosedLemmas.TreeLemmas.{above, lies-holder}
 
 -- ---- first places

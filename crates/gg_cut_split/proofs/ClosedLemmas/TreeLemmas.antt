@@ -4,7 +4,8 @@ use Rattle.std.specs.Prelude.{Option, ◌==◌}
 use Rattle.std.proofs.lemmas.Bool.{cases_lt, cases_eq, or_cases, or_right}
 use Rattle.gg_flat.specs.Circuit.{FlatCircuit}
 use Rattle.gg_flat_tree.specs.Tree.{InstanceTree, IsTree, IsInnermost, Holds, instance_at, parent_place}
-use Rattle.gg_cut_plan.specs.Listed.{lies, ParentsBefore}
+use Rattle.gg_cut_plan.specs.Listed.{lies}
+use Rattle.gg_cut_plan.specs.inside.Listed.{ParentsBefore}
 use Rattle.gg_cut_plan.proofs.ChainLemmas.{lies-parent, lies-alone, lies-self}
 use Rattle.gg_cut_plan.proofs.KnownLemmas.{parents-before}
 

@@ -17,9 +17,9 @@ use Rattle.gg_partfile.specs.declared.request.Request.{Request}
 use Rattle.gg_partfile.specs.Request.{no_request}
 use Rattle.gg_cut_plan.specs.Listed.{listed_of, owner_of, owner_of_instance, memory_owner}
 use Rattle.gg_cut_plan.specs.Fault.{rest_behind, fault_in}
-use Rattle.gg_cut_plan.specs.Plan.{cut_names}
+use Rattle.gg_cut_plan.specs.inside.Plan.{cut_names}
 use Rattle.gg_cut_plan.proofs.WorkedPair.{output}
-use Rattle.gg_cut_split.specs.closed.Longest.{HoldsPath, Covers, listed_paths, IsLongestHolder, IsLongestCover}
+use Rattle.gg_cut_split.specs.inside.Longest.{HoldsPath, Covers, listed_paths, IsLongestHolder, IsLongestCover}
 
 -- ---- what a path doesn't hold
 

@@ -14,8 +14,9 @@ use Rattle.gg_cut_plan.specs.declared.listed.Listed.{Listed}
 use Rattle.gg_cut_plan.specs.Listed.{owner_of_instance, owner_of}
 use Rattle.gg_cut_plan.specs.Machines.{first_memory, first_source}
 use Rattle.gg_cut_plan.specs.Channels.{wire, wires_of}
-use Rattle.gg_cut_plan.specs.Plan.{IsInner, Makes}
-use Rattle.gg_cut_split.specs.closed.Apart.{AreApart}
+use Rattle.gg_cut_plan.specs.Plan.{IsInner}
+use Rattle.gg_cut_plan.specs.inside.Plan.{Makes}
+use Rattle.gg_cut_split.specs.inside.Apart.{AreApart}
 use Rattle.gg_cut_split.proofs.ClosedLemmas.ListLemmas.{Somewhere}
 use Rattle.gg_cut_split.proofs.ClosedLemmas.TreeLemmas.{Innermost, innermost}
 use Rattle.gg_cut_split.proofs.ClosedLemmas.PlaceLemmas.{owner-unit, owner-inner, owner-top}

@@ -6,10 +6,10 @@ ghost use Rattle.gg_partfile.specs.declared.request.Request.{Request};
 ghost use Rattle.gg_cut_plan.specs.Listed.{listed_of};
 ghost use Rattle.gg_cut_plan.specs.Fault.{entry_faults, first_fault};
 ghost use Rattle.gg_bits.specs.Lists.{first_of};
-ghost use Rattle.gg_cut_split.specs.closed.Apart.{AreApart, AreFew};
-ghost use Rattle.gg_cut_split.specs.closed.OwnersByPath.{SignalsBelongByPath, InstancesBelongByPath, MemoriesBelongByPath, MachinesHaveListedNames};
-ghost use Rattle.gg_cut_split.specs.closed.CutChannels.{OwnersAreAtEnds, SignalsHaveOneChannel, ChannelsHaveTwoEnds};
-ghost use Rattle.gg_cut_split.specs.closed.Closed.{DriversNameWithin, RegistersNameWithin, MachinesMakeParts};
+ghost use Rattle.gg_cut_split.specs.inside.Apart.{AreApart, AreFew};
+ghost use Rattle.gg_cut_split.specs.inside.OwnersByPath.{SignalsBelongByPath, InstancesBelongByPath, MemoriesBelongByPath, MachinesHaveListedNames};
+ghost use Rattle.gg_cut_split.specs.inside.CutChannels.{OwnersAreAtEnds, SignalsHaveOneChannel, ChannelsHaveTwoEnds};
+ghost use Rattle.gg_cut_split.specs.inside.Closed.{DriversNameWithin, RegistersNameWithin, MachinesMakeParts};
 
 /// What a request lists is apart, if its entries have no fault. If the request has no fault at all, it lists at most 256 units
 /// and memories, and the plan has at most 16,384 channels.

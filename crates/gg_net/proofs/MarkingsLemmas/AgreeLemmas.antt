@@ -19,7 +19,7 @@ use Rattle.gg_net.proofs.FrameLemmas.{machine-known, machine-there, kind-is}
 use Rattle.gg_net.proofs.WireLemmas.{one-in, channel-is}
 use Rattle.gg_net.proofs.TableLemmas.{port-there}
 use Rattle.gg_net.specs.markings.Marking.{Layout, Marking, turns_at, port_count, marked_facts, marked_refusal}
-use Rattle.gg_net.specs.markings.Fits.{HasLayout, AreTaken, AreTurnsOf, IsTurnOf, places_of, marking_of}
+use Rattle.gg_net.specs.inside.Fits.{HasLayout, AreTaken, AreTurnsOf, IsTurnOf, places_of, marking_of}
 use Rattle.gg_net.proofs.MarkingsLemmas.CountLemmas.{cycle-at, served-at, taken-at, given-at, held-is, machine-count}
 use Rattle.gg_net.proofs.MarkingsLemmas.AlikeLemmas.{AreAlike, same-refusal}
 

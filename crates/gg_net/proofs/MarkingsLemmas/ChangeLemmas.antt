@@ -9,7 +9,7 @@ use Rattle.gg_node.specs.Machine.{Machine, no_machine, machine_at, latch_at, fla
 use Rattle.gg_net.specs.Network.{Network, Kind, wire_at, kind_of, frame_of}
 use Rattle.gg_net.specs.Step.{latch_of, flag_of}
 use Rattle.gg_net.specs.markings.Marking.{Marking, is_set, one_more}
-use Rattle.gg_net.specs.markings.Fits.{marking_of}
+use Rattle.gg_net.specs.inside.Fits.{marking_of}
 use Rattle.gg_net.proofs.MarkingsLemmas.CountLemmas.{cycle-at, served-at, taken-at, given-at}
 
 -- markings with the same parts are the same

@@ -12,7 +12,7 @@ use Rattle.gg_net.specs.Network as network
 use Rattle.gg_net.specs.Step.{latch_of, flag_of}
 use Rattle.gg_net.specs.Kept.{Kept, BetweenAt, list_at}
 use Rattle.gg_net.specs.markings.Marking.{Layout, Marking, is_set, marked_puts, marked_entered, marked_takes, held}
-use Rattle.gg_net.specs.markings.Fits.{HasLayout, marking_of}
+use Rattle.gg_net.specs.inside.Fits.{HasLayout, marking_of}
 
 -- ---- over plain variables
 

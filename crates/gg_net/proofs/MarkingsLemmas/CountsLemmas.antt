@@ -6,7 +6,8 @@ use Rattle.std.proofs.lemmas.List.FromFn.{length-map-range_with_len, get_or-map-
 use Rattle.gg_flat.specs.Line.{value_at}
 use Rattle.gg_net.specs.markings.Marking.{Layout, link_at, turns_at, is_set}
 use Rattle.gg_net.specs.Network.{and_one}
-use Rattle.gg_net.specs.markings.Counts.{Counts, counts_of, dues, WasTaken, HasServed, IsAllowed, AreSame, CanRun, IsMarkingOf, marking_by}
+use Rattle.gg_net.specs.inside.Counts.{Counts, counts_of, WasTaken, HasServed, IsAllowed, AreSame, CanRun, IsMarkingOf, marking_by}
+use Rattle.gg_net.specs.markings.Counts.{dues}
 
 -- counts that agree with allowed counts are allowed
 module _ (layout : Layout) (can : CanRun layout) (a b : Counts) (allowed : IsAllowed layout a) (same : AreSame layout a b) where

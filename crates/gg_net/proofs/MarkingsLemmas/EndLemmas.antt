@@ -7,9 +7,11 @@ use Rattle.gg_flat.specs.Line.{value_at}
 use Rattle.gg_net.specs.declared.event.Event.{Event}
 use Rattle.gg_net.specs.markings.Marking.{Layout, Marking, link_at, marked_puts, held, opening_marking, marked_refusal}
 use Rattle.gg_net.specs.Network.{and_one}
-use Rattle.gg_net.specs.markings.Counts.{Counts, counts_of, early, dues, HasServed, IsAllowed, HasBegun, AreAtMost, CanRun, IsMarkingOf}
-use Rattle.gg_net.specs.markings.Measure.{left, left_in, left_at, all_dues, sum_below}
-use Rattle.gg_net.specs.markings.Leads.{Leads, IsStuck, end_marking}
+use Rattle.gg_net.specs.inside.Counts.{Counts, counts_of, early, HasServed, IsAllowed, HasBegun, AreAtMost, CanRun, IsMarkingOf}
+use Rattle.gg_net.specs.markings.Counts.{dues}
+use Rattle.gg_net.specs.inside.Measure.{left, left_in, left_at}
+use Rattle.gg_net.specs.markings.Measure.{all_dues, sum_below}
+use Rattle.gg_net.specs.inside.Leads.{Leads, IsStuck, end_marking}
 use Rattle.gg_net.proofs.MarkingsLemmas.EarlyLemmas.{entered-is, early-few}
 use Rattle.gg_net.proofs.MarkingsLemmas.SumLemmas.{mul-over, sum-same, sum-add, sum-equal, sum-times}
 use Rattle.gg_net.proofs.MarkingsLemmas.LeadLemmas.{next-event, leads-kept, leads-up, one-marking}

@@ -13,7 +13,7 @@ use Rattle.gg_net.specs.Network.{Network, wire_at, frame_of}
 use Rattle.gg_net.specs.Step.{after_finish}
 use Rattle.gg_net.proofs.StepLemmas.{clear-after}
 use Rattle.gg_net.specs.markings.Marking.{Link, Layout, link_at, is_set, cleared, after}
-use Rattle.gg_net.specs.markings.Fits.{HasLayout, marking_of}
+use Rattle.gg_net.specs.inside.Fits.{HasLayout, marking_of}
 use Rattle.gg_net.proofs.MarkingsLemmas.ChangeLemmas.{same-parts, same-frame, next-cycles, none-served, taken-by, given-by}
 
 -- the frame stays

@@ -16,7 +16,7 @@ use Rattle.gg_net.proofs.WireLemmas.{one-out}
 use Rattle.gg_net.proofs.MachineLemmas.{out-within}
 use Rattle.gg_net.proofs.MayLemmas.{producer-there}
 use Rattle.gg_net.specs.markings.Marking.{Layout, is_set, after}
-use Rattle.gg_net.specs.markings.Fits.{marking_of}
+use Rattle.gg_net.specs.inside.Fits.{marking_of}
 use Rattle.gg_net.proofs.MarkingsLemmas.CountLemmas.{given-at}
 use Rattle.gg_net.proofs.MarkingsLemmas.ChangeLemmas.{same-parts, given-count, same-frame, same-cycles, same-served, same-taken, given-by}
 

@@ -5,7 +5,8 @@ use Rattle.gg_net.specs.declared.event.Event.{Event}
 use Rattle.gg_net.specs.declared.event.Event.TheVariants.{Latch, Fire, Serve, Finish}
 use Rattle.gg_net.specs.Refusal.{Turn}
 use Rattle.gg_net.specs.markings.Marking.{Layout, link_at, turns_at}
-use Rattle.gg_net.specs.markings.Counts.{Counts, early, dues, WasTaken, HasGiven}
+use Rattle.gg_net.specs.inside.Counts.{Counts, early, WasTaken, HasGiven}
+use Rattle.gg_net.specs.markings.Counts.{dues}
 
 -- A token of channel c may be taken: the channel exists, its consumer has cycles left and hasn't taken the token of this cycle, and the
 -- queue holds one.

@@ -12,7 +12,8 @@ use Rattle.gg_net.proofs.FindLemmas.{find-none, found-skips, chosen-fail}
 use Rattle.gg_net.proofs.RowLemmas.{LatchGoes, latch-goes, goes-latch, FireGoes, fire-goes, goes-fire, ServeGoes, serve-goes, goes-serve, FinishGoes, finish-goes, goes-finish}
 use Rattle.gg_net.specs.markings.Marking.{Layout, Marking, link_at, turns_at, is_set, port_count, due_turn, marked_facts, marked_refusal}
 use Rattle.gg_net.specs.Network.{and_one}
-use Rattle.gg_net.specs.markings.Counts.{Counts, counts_of, early, dues, WasTaken, HasGiven, HasServed, IsAllowed, CanRun}
+use Rattle.gg_net.specs.inside.Counts.{Counts, counts_of, early, WasTaken, HasGiven, HasServed, IsAllowed, CanRun}
+use Rattle.gg_net.specs.markings.Counts.{dues}
 use Rattle.gg_net.proofs.MarkingsLemmas.Free.{FreeLatch, FreeFire, FreeServe, FreeFinish, Free}
 use Rattle.gg_net.proofs.MarkingsLemmas.EarlyLemmas.{entered-is}
 

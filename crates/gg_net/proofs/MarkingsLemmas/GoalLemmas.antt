@@ -6,7 +6,8 @@ use Rattle.std.proofs.lemmas.Bool.{cases_lt}
 use Rattle.gg_net.specs.declared.event.Event.{Event}
 use Rattle.gg_net.specs.declared.event.Event.TheVariants.{Latch, Fire, Serve, Finish}
 use Rattle.gg_net.specs.markings.Marking.{Layout, Marking, link_at, turns_at, marked_refusal}
-use Rattle.gg_net.specs.markings.Counts.{Counts, counts_of, dues, WasTaken, HasServed, IsAllowed, AreAtMost, IsBehind, CanRun}
+use Rattle.gg_net.specs.inside.Counts.{Counts, counts_of, WasTaken, HasServed, IsAllowed, AreAtMost, IsBehind, CanRun}
+use Rattle.gg_net.specs.markings.Counts.{dues}
 use Rattle.gg_net.proofs.MarkingsLemmas.Free.{Free}
 use Rattle.gg_net.proofs.MarkingsLemmas.EarlyLemmas.{early-few}
 use Rattle.gg_net.proofs.MarkingsLemmas.FreeLemmas.{is-free}

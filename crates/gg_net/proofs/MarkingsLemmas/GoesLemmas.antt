@@ -8,7 +8,7 @@ use Rattle.gg_net.specs.Kept.{Kept}
 use Rattle.gg_net.specs.Step.{Ready, Step}
 use Rattle.gg_net.proofs.TableLemmas.{latch-can, fire-can, serve-can, finish-can}
 use Rattle.gg_net.specs.markings.Marking.{Layout, marked_refusal, after}
-use Rattle.gg_net.specs.markings.Fits.{HasLayout, marking_of}
+use Rattle.gg_net.specs.inside.Fits.{HasLayout, marking_of}
 use Rattle.gg_net.proofs.MarkingsLemmas.AgreeLemmas.{marked}
 use Rattle.gg_net.proofs.MarkingsLemmas.LatchStep.{latch-frame, latch-step}
 use Rattle.gg_net.proofs.MarkingsLemmas.FireStep.{fire-frame, fire-step}

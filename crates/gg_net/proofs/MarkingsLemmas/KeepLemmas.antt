@@ -8,7 +8,8 @@ use Rattle.gg_net.specs.declared.event.Event.{Event}
 use Rattle.gg_net.specs.declared.event.Event.TheVariants.{Latch, Fire, Serve, Finish}
 use Rattle.gg_net.specs.Refusal.{Turn}
 use Rattle.gg_net.specs.markings.Marking.{Layout, link_at, turns_at}
-use Rattle.gg_net.specs.markings.Counts.{Counts, dues, WasTaken, WasGiven, HasServed, IsAllowed, AreAtMost, IsBehind, Raises, CanRun}
+use Rattle.gg_net.specs.inside.Counts.{Counts, WasTaken, WasGiven, HasServed, IsAllowed, AreAtMost, IsBehind, Raises, CanRun}
+use Rattle.gg_net.specs.markings.Counts.{dues}
 use Rattle.gg_net.proofs.MarkingsLemmas.Free.{FreeLatch, FreeFire, FreeServe, FreeFinish, Free}
 use Rattle.gg_net.proofs.MarkingsLemmas.SumLemmas.{one-cases}
 

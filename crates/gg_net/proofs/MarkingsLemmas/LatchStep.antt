@@ -16,7 +16,7 @@ use Rattle.gg_net.proofs.WireLemmas.{one-in}
 use Rattle.gg_net.proofs.MachineLemmas.{place-within}
 use Rattle.gg_net.proofs.MayLemmas.{consumer-there}
 use Rattle.gg_net.specs.markings.Marking.{Layout, is_set, after}
-use Rattle.gg_net.specs.markings.Fits.{marking_of}
+use Rattle.gg_net.specs.inside.Fits.{marking_of}
 use Rattle.gg_net.proofs.MarkingsLemmas.CountLemmas.{taken-at}
 use Rattle.gg_net.proofs.MarkingsLemmas.ChangeLemmas.{same-parts, taken-count, same-frame, same-cycles, same-served, taken-by, same-given}
 

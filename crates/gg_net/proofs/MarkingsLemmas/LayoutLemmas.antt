@@ -8,10 +8,10 @@ use Rattle.gg_node.specs.Step.{fields_of}
 use Rattle.gg_net.specs.Network.{Frame, IsAtIn, wire_at, kind_at}
 use Rattle.gg_net.specs.Kept.{IsWired}
 use Rattle.gg_net.specs.Refusal.{Turn}
-use Rattle.gg_net.specs.markings.Fits.{HasLayout, IsLinkOf, IsTurnOf, AreTurnsOf, AreTaken, places_of}
+use Rattle.gg_net.specs.inside.Fits.{HasLayout, IsLinkOf, IsTurnOf, AreTurnsOf, AreTaken, places_of}
 use Rattle.gg_net.specs.Step.{channel_into, turn_of}
 use Rattle.gg_net.proofs.WireLemmas.{channel-is}
-use Rattle.gg_net.specs.markings.LayoutOf.{link_of, layout_of}
+use Rattle.gg_net.specs.inside.LayoutOf.{link_of, layout_of}
 
 module _ (frame : Frame) (wired : IsWired frame) where
   -- the channels at these ins are at these ins

@@ -11,10 +11,11 @@ use Rattle.gg_net.specs.Refusal.{Turn}
 use Rattle.gg_net.specs.markings.Marking.{Layout, Marking, link_at, is_set, due_turn, marked_refusal, after}
 use Rattle.gg_net.specs.Network.{and_one}
 use Rattle.gg_net.proofs.MarkingsLemmas.ChangeLemmas.{same-parts}
-use Rattle.gg_net.specs.markings.Counts.{Counts, counts_of, dues, IsAllowed, AreAtMost, AreSame, IsBehind, Raises, CanRun, IsMarkingOf}
+use Rattle.gg_net.specs.inside.Counts.{Counts, counts_of, IsAllowed, AreAtMost, AreSame, IsBehind, Raises, CanRun, IsMarkingOf}
+use Rattle.gg_net.specs.markings.Counts.{dues}
 use Rattle.gg_net.proofs.MarkingsLemmas.Free.{FreeServe, Free}
-use Rattle.gg_net.specs.markings.Measure.{left}
-use Rattle.gg_net.specs.markings.Leads.{Leads}
+use Rattle.gg_net.specs.inside.Measure.{left}
+use Rattle.gg_net.specs.inside.Leads.{Leads}
 use Rattle.gg_net.proofs.MarkingsLemmas.KeepLemmas.{keeps-allowed, stays-below}
 use Rattle.gg_net.proofs.MarkingsLemmas.StuckLemmas.{stuck-same}
 use Rattle.gg_net.proofs.MarkingsLemmas.FreeLemmas.{is-free, free-is, due-is}

@@ -3,9 +3,10 @@ use Rattle.std.proofs.Common.{◌≡◌, ℕ, suc, ◌+◌, ◌≤◌, length, r
 use Rattle.gg_net.specs.declared.event.Event.{Event}
 use Rattle.gg_net.specs.declared.event.Event.TheVariants.{Latch, Fire, Serve, Finish}
 use Rattle.gg_net.specs.markings.Marking.{Layout}
-use Rattle.gg_net.specs.markings.Counts.{Counts, fires, latches, finishes, accesses, IsAllowed, AreAtMost, Raises}
+use Rattle.gg_net.specs.inside.Counts.{Counts, fires, latches, finishes, accesses, IsAllowed, AreAtMost, Raises}
 use Rattle.gg_net.proofs.MarkingsLemmas.Free.{Free}
-use Rattle.gg_net.specs.markings.Measure.{sum_below, left_in, left_at, left}
+use Rattle.gg_net.specs.markings.Measure.{sum_below}
+use Rattle.gg_net.specs.inside.Measure.{left_in, left_at, left}
 use Rattle.gg_net.proofs.MarkingsLemmas.SumLemmas.{sum-same, sum-le, sum-add, sum-one, sum-none}
 
 -- what an event does in a channel, and at a machine

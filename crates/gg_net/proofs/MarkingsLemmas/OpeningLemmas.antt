@@ -8,10 +8,11 @@ use Rattle.gg_node.specs.Machine.{Machine, no_machine, machine_at, latch_at, fla
 use Rattle.gg_node.proofs.EmptyLemmas.{empty-after}
 use Rattle.gg_net.specs.declared.shape.Wire.{Wire}
 use Rattle.gg_net.specs.Network.{Network, wire_at, and_one, puts, kind_of, frame_of}
-use Rattle.gg_net.specs.Net.{IsOpening, opening_net}
+use Rattle.gg_net.specs.inside.Net.{IsOpening}
+use Rattle.gg_net.specs.Net.{opening_net}
 use Rattle.gg_net.proofs.StepLemmas.{clear-after}
 use Rattle.gg_net.specs.markings.Marking.{Layout, opening_marking}
-use Rattle.gg_net.specs.markings.Fits.{HasLayout, marking_of}
+use Rattle.gg_net.specs.inside.Fits.{HasLayout, marking_of}
 use Rattle.gg_net.proofs.MarkingsLemmas.CountLemmas.{taken-at, given-at}
 use Rattle.gg_net.proofs.MarkingsLemmas.ChangeLemmas.{same-parts, taken-count, given-count}
 

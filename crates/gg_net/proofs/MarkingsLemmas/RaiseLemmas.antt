@@ -9,7 +9,8 @@ use Rattle.gg_net.specs.declared.event.Event.{Event}
 use Rattle.gg_net.specs.declared.event.Event.TheVariants.{Latch, Fire, Serve, Finish}
 use Rattle.gg_net.specs.markings.Marking.{Layout, Marking, Link, link_at, is_set, one_more, cleared, after}
 use Rattle.gg_net.specs.Network.{and_one}
-use Rattle.gg_net.specs.markings.Counts.{Counts, counts_of, dues, one_at, Raises, IsMarkingOf}
+use Rattle.gg_net.specs.inside.Counts.{Counts, counts_of, one_at, Raises, IsMarkingOf}
+use Rattle.gg_net.specs.markings.Counts.{dues}
 use Rattle.gg_net.proofs.MarkingsLemmas.Free.{FreeLatch, FreeFire, FreeServe, FreeFinish, Free}
 use Rattle.gg_net.proofs.MarkingsLemmas.SumLemmas.{one-here, one-elsewhere}
 

@@ -2,8 +2,8 @@
 use Rattle.std.proofs.Common.{ℕ, ◌≤◌, ◌↔◌, List, sym, arith}
 use Rattle.gg_net.specs.declared.event.Event.{Event}
 use Rattle.gg_net.specs.markings.Marking.{Layout, Marking, opening_marking}
-use Rattle.gg_net.specs.markings.Counts.{Counts, counts_of, IsAllowed, HasBegun, AreSame, CanRun, marking_by}
-use Rattle.gg_net.specs.markings.Leads.{Leads}
+use Rattle.gg_net.specs.inside.Counts.{Counts, counts_of, IsAllowed, HasBegun, AreSame, CanRun, marking_by}
+use Rattle.gg_net.specs.inside.Leads.{Leads}
 use Rattle.gg_net.proofs.MarkingsLemmas.CountsLemmas.{allowed-same, by-shape, by-same, by-allowed}
 use Rattle.gg_net.proofs.MarkingsLemmas.EndLemmas.{reached, reaches-allowed}
 

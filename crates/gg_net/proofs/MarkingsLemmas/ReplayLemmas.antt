@@ -6,8 +6,8 @@ use Rattle.gg_net.specs.declared.event.Event.{Event}
 use Rattle.gg_net.specs.declared.event.StepRefusal.{StepRefusal}
 use Rattle.gg_net.specs.markings.Marking.{Layout, Marking, marked_refusal, after}
 use Rattle.gg_net.specs.markings.Goes.{Stopped, step_refusal, after_step, go_on, replayed_from}
-use Rattle.gg_net.specs.markings.Counts.{counts_of, IsAllowed, CanRun, IsMarkingOf}
-use Rattle.gg_net.specs.markings.Measure.{left}
+use Rattle.gg_net.specs.inside.Counts.{counts_of, IsAllowed, CanRun, IsMarkingOf}
+use Rattle.gg_net.specs.inside.Measure.{left}
 use Rattle.gg_net.proofs.MarkingsLemmas.LeadLemmas.{Went, went}
 use Rattle.gg_net.proofs.MarkingsLemmas.EndLemmas.{goes-or-ends, end-left}
 

@@ -6,7 +6,7 @@ use Rattle.gg_net.specs.declared.event.Event.TheVariants.{Serve}
 use Rattle.gg_net.specs.Network.{Network, frame_of}
 use Rattle.gg_net.specs.Step.{after_serve}
 use Rattle.gg_net.specs.markings.Marking.{Layout, after}
-use Rattle.gg_net.specs.markings.Fits.{marking_of}
+use Rattle.gg_net.specs.inside.Fits.{marking_of}
 use Rattle.gg_net.proofs.MarkingsLemmas.ChangeLemmas.{same-parts, same-frame, same-cycles, next-served, same-taken, same-given}
 
 -- the frame stays

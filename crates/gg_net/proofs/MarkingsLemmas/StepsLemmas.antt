@@ -11,7 +11,7 @@ use Rattle.gg_net.proofs.StepLemmas.{kept-step}
 use Rattle.gg_net.specs.markings.Marking.{Layout}
 use Rattle.gg_net.specs.markings.Goes.{Stopped, step_refusal, after_step, go_on, replayed_from}
 use Rattle.gg_net.specs.markings.Steps.{IsStep, StepRefused, Steps, StopsAt}
-use Rattle.gg_net.specs.markings.Fits.{HasLayout, marking_of}
+use Rattle.gg_net.specs.inside.Fits.{HasLayout, marking_of}
 use Rattle.gg_net.proofs.MarkingsLemmas.AgreeLemmas.{marked}
 use Rattle.gg_net.proofs.MarkingsLemmas.GoesLemmas.{ready-free, step-marks, step-frame}
 

@@ -6,7 +6,8 @@ use Rattle.std.proofs.lemmas.Bool.{cases_lt}
 use Rattle.std.proofs.lemmas.Option.{slice_get-get_or}
 use Rattle.gg_net.specs.Refusal.{Turn}
 use Rattle.gg_net.specs.markings.Marking.{Layout, link_at, turns_at}
-use Rattle.gg_net.specs.markings.Counts.{Counts, early, dues, WasTaken, HasGiven, HasServed, IsAllowed, AreAtMost, AreSame, CanRun}
+use Rattle.gg_net.specs.inside.Counts.{Counts, early, WasTaken, HasGiven, HasServed, IsAllowed, AreAtMost, AreSame, CanRun}
+use Rattle.gg_net.specs.markings.Counts.{dues}
 use Rattle.gg_net.proofs.MarkingsLemmas.Free.{FreeLatch, FreeFire, FreeServe, FreeFinish}
 use Rattle.gg_net.proofs.MarkingsLemmas.EarlyLemmas.{early-few}
 

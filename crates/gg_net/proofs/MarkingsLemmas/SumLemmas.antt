@@ -4,7 +4,7 @@ use Rattle.std.specs.Prelude.{◌⊎◌, if◌then◌else◌, sum, slice_index_o
 use Rattle.std.specs.List.{sum_by}
 use Rattle.std.proofs.lemmas.List.Sums.{sum_by-cons, sum-map}
 use Rattle.std.proofs.lemmas.Bool.{cases_eq, eq-eqb, ne_eqb}
-use Rattle.gg_net.specs.markings.Counts.{one_at}
+use Rattle.gg_net.specs.inside.Counts.{one_at}
 use Rattle.gg_net.specs.markings.Measure.{sum_below}
 
 -- 1 at the number itself, else 0

@@ -14,7 +14,7 @@ use Rattle.gg_net.specs.Step.{Step, after_latch, after_fire}
 use Rattle.gg_net.specs.Refusal.{Turn}
 use Rattle.gg_net.specs.markings.Marking.{Layout, opening_marking, link_at, turns_at, marked_puts, held, after}
 use Rattle.gg_net.specs.markings.Steps.{StepRefused, StopsAt}
-use Rattle.gg_net.specs.markings.Fits.{IsLinkOf, IsTurnOf, AreTurnsOf, HasLayout, marking_of}
+use Rattle.gg_net.specs.inside.Fits.{IsLinkOf, IsTurnOf, AreTurnsOf, HasLayout, marking_of}
 
 -- no ports, no turns
 no-turns : (frame : Frame) (m : ℕ) → AreTurnsOf frame m [] []

@@ -5,9 +5,10 @@ use Rattle.gg_net.specs.declared.event.Event.TheVariants.{Latch, Fire, Finish}
 use Rattle.gg_net.specs.declared.event.StepRefusal.TheVariants.{Unfired, NeedsInput, NoToken, Full}
 use Rattle.gg_net.specs.Refusal.{Turn}
 use Rattle.gg_net.specs.markings.Marking.{Link, Layout, opening_marking, held, marked_refusal, after}
-use Rattle.gg_net.specs.markings.Counts.{counts_of, early, CanRun, IsAllowed, Flows}
-use Rattle.gg_net.specs.markings.Measure.{left, all_dues}
-use Rattle.gg_net.specs.markings.Leads.{Leads, end_marking}
+use Rattle.gg_net.specs.inside.Counts.{counts_of, early, CanRun, IsAllowed, Flows}
+use Rattle.gg_net.specs.inside.Measure.{left}
+use Rattle.gg_net.specs.markings.Measure.{all_dues}
+use Rattle.gg_net.specs.inside.Leads.{Leads, end_marking}
 
 -- ---- two units that feed each other in one cycle: the hub 0, the units 1 and 2, a source 3, a tray 4
 

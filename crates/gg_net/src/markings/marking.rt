@@ -8,10 +8,10 @@ ghost use Rattle.gg_net.specs.Network as network;
 ghost use Rattle.gg_net.specs.Kept.{IsWired, Kept};
 ghost use Rattle.gg_net.specs.Step.{Step};
 ghost use Rattle.gg_net.specs.markings.Marking.{Layout, marked_puts, marked_takes, held, after};
-ghost use Rattle.gg_net.specs.markings.Fits.{HasLayout, marking_of};
-ghost use Rattle.gg_net.specs.markings.LayoutOf.{layout_of};
+ghost use Rattle.gg_net.specs.inside.Fits.{HasLayout, marking_of};
+ghost use Rattle.gg_net.specs.inside.LayoutOf.{layout_of};
 ghost use Rattle.gg_net.specs.markings.Steps.{IsStep, Steps};
-ghost use Rattle.gg_net.specs.markings.MarkingLaws.{RefusalsAreMarked, OpensMarked, OpensWithNonePut, NewestIsLastEntered, PutsTheNext, StepsAreReplayed, StopsAreReplayed, ReplayGoesOn};
+ghost use Rattle.gg_net.specs.inside.MarkingLaws.{RefusalsAreMarked, OpensMarked, OpensWithNonePut, NewestIsLastEntered, PutsTheNext, StepsAreReplayed, StopsAreReplayed, ReplayGoesOn};
 
 /// A network agrees with its marking. An event may be done exactly if the marking doesn't refuse it, and every other
 /// event is refused for the marking's cause. A step changes the marking as its event does, and leaves the layout as it

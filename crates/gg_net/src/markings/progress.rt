@@ -1,9 +1,9 @@
 //! Laws of counts: which of them can come up together, and the measure that each step lowers. Each is the contract of a function with an empty body.
 ghost use Rattle.std.specs.Prelude.{◌≡◌, ℕ, ◌<◌, ◌≤◌, length};
 ghost use Rattle.gg_net.specs.markings.Marking.{Layout, Marking, opening_marking, held};
-ghost use Rattle.gg_net.specs.markings.Counts.{counts_of, early, IsAllowed, AreSame, CanRun, IsMarkingOf};
-ghost use Rattle.gg_net.specs.markings.Leads.{end_marking};
-ghost use Rattle.gg_net.specs.markings.ProgressLaws.{EventsRaise, EventsKeepAllowed, EventsLower, OpeningIsLowest, OpeningMeasure, LeadsUp, LeadsOnlyUp, StuckAtEnd, ReachedIfAllowed, ReplayedLower, ReplayedWhileLeft};
+ghost use Rattle.gg_net.specs.inside.Counts.{counts_of, early, IsAllowed, AreSame, CanRun, IsMarkingOf};
+ghost use Rattle.gg_net.specs.inside.Leads.{end_marking};
+ghost use Rattle.gg_net.specs.inside.ProgressLaws.{EventsRaise, EventsKeepAllowed, EventsLower, OpeningIsLowest, OpeningMeasure, LeadsUp, LeadsOnlyUp, StuckAtEnd, ReachedIfAllowed, ReplayedLower, ReplayedWhileLeft};
 
 /// An event that may be done raises its own count by one and no other, keeps counts allowed, and lowers the measure by
 /// one.

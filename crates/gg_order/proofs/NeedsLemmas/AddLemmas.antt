@@ -12,7 +12,7 @@ use Rattle.gg_flat.specs.Reads.{Names}
 use Rattle.gg_flat.proofs.NameLemmas.{Names-push, Names-new, Names-push_cases}
 use Rattle.gg_order.specs.Marks.{is_marked}
 use Rattle.gg_order.proofs.MarkLemmas.{Marks-none, Marks-then}
-use Rattle.gg_order.specs.needs.Marks.{marks_of, any_marks, Adds}
+use Rattle.gg_order.specs.inside.NeedsMarks.{marks_of, any_marks, Adds}
 
 -- ---- the marks of one out-signal
 

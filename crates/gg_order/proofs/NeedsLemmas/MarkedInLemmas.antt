@@ -9,8 +9,8 @@ use Rattle.gg_flat.specs.Line.{value_at}
 use Rattle.gg_flat.specs.Circuit.{FlatCircuit}
 use Rattle.gg_order.specs.Marks.{is_marked}
 use Rattle.gg_order.specs.needs.Needs.{AreNeeds}
-use Rattle.gg_order.specs.needs.Marks.{marks_of, any_marks}
-use Rattle.gg_order.specs.needs.Walk.{MarksReached, AreMarkedIns, AreMarkedAmong}
+use Rattle.gg_order.specs.inside.NeedsMarks.{marks_of, any_marks}
+use Rattle.gg_order.specs.inside.Walk.{MarksReached, AreMarkedIns, AreMarkedAmong}
 use Rattle.gg_order.proofs.NeedsLemmas.AddLemmas.{any-marked}
 
 -- ---- the marked in-signals, place by place

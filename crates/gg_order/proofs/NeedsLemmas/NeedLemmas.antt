@@ -6,7 +6,7 @@ use Rattle.gg_flat.specs.Line.{value_at}
 use Rattle.gg_flat.specs.Circuit.{FlatCircuit}
 use Rattle.gg_order.specs.needs.Needs.{AreNeeds}
 use Rattle.gg_order.specs.needs.Needs.{AreNeedsOfOuts}
-use Rattle.gg_order.specs.needs.Groups.{AreNeedsSoFar}
+use Rattle.gg_order.specs.inside.Groups.{AreNeedsSoFar}
 
 pub AreNeedsSoFar-push : (circuit : FlatCircuit) (needs : List (List ℕ)) (own : List ℕ) (n : ℕ) → n ≡ length needs → n < length circuit.outs → AreNeeds circuit (value_at circuit.outs n) own → AreNeedsSoFar circuit needs → AreNeedsSoFar circuit (needs ++ own ∷ [])
 AreNeedsSoFar-push circuit needs own n count some is h =

@@ -7,7 +7,7 @@ use Rattle.gg_flat.specs.Reads.{Reads}
 use Rattle.gg_flat.specs.Order.{IsOrder}
 use Rattle.gg_flat.proofs.OrderLemmas.{read-before, place-of}
 use Rattle.gg_order.specs.Marks.{is_marked}
-use Rattle.gg_order.specs.needs.Walk.{MarksReached, IsClosed, IsWalk, ReadsMarked}
+use Rattle.gg_order.specs.inside.Walk.{MarksReached, IsClosed, IsWalk, ReadsMarked}
 use Rattle.gg_order.proofs.NeedsLemmas.ReachLemmas.{Reaches-on, along-reaches}
 
 -- one step of the walk: the signal at place k is looked at

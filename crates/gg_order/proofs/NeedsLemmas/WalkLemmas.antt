@@ -11,11 +11,11 @@ use Rattle.gg_flat.specs.Reads.{Reaches}
 use Rattle.gg_flat.specs.InOrder.{IsInOrder}
 use Rattle.gg_flat.proofs.NumberLemmas.{IsOrder-numbers}
 use Rattle.gg_order.specs.Marks.{is_marked}
-use Rattle.gg_order.specs.needs.Walk.{IsWalk, ReadsMarked}
+use Rattle.gg_order.specs.inside.Walk.{IsWalk, ReadsMarked}
 use Rattle.gg_order.proofs.NeedsLemmas.ReachLemmas.{Reaches-itself}
 use Rattle.gg_order.proofs.NeedsLemmas.ReachedLemmas.{IsWalk-step, MarksReached-walk}
-use Rattle.gg_order.specs.needs.Marks.{marks_of, Adds}
-use Rattle.gg_order.specs.needs.Walk.{AreOwn, AreReached, HandsOn}
+use Rattle.gg_order.specs.inside.NeedsMarks.{marks_of, Adds}
+use Rattle.gg_order.specs.inside.Walk.{AreOwn, AreReached, HandsOn}
 use Rattle.gg_order.proofs.NeedsLemmas.AddLemmas.{bit-unmarked}
 
 -- ---- the out-signals' own marks

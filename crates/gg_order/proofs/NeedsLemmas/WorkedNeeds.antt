@@ -9,12 +9,12 @@ use Rattle.gg_flat.proofs.WorkedForms.{both, same}
 use Rattle.gg_order.specs.Marks.{is_marked}
 use Rattle.gg_order.specs.needs.Needs.{AreNeeds}
 use Rattle.gg_order.specs.needs.Needs.{AreNeedsOfOuts}
-use Rattle.gg_order.specs.needs.Walk.{IsClosed, MarksReached}
+use Rattle.gg_order.specs.inside.Walk.{IsClosed, MarksReached}
 use Rattle.gg_order.proofs.NeedsLemmas.MarkedInLemmas.{AreNeeds-marked, AreMarkedIns-none, AreMarkedIns-skip, AreMarkedIns-push}
 use Rattle.gg_order.proofs.NeedsLemmas.ReachLemmas.{along-reaches}
 use Rattle.gg_order.proofs.NeedsLemmas.WorkedUnits.{unit}
-use Rattle.gg_order.specs.needs.Marks.{marks_of}
-use Rattle.gg_order.specs.needs.Walk.{AreReached}
+use Rattle.gg_order.specs.inside.NeedsMarks.{marks_of}
+use Rattle.gg_order.specs.inside.Walk.{AreReached}
 
 -- The inputs `x` and `k` are signals 0 and 1, the outputs `p`, which is `x`, and `q`, which is `xor(x, k)`, signals 2 and 3. Both
 -- outputs reach `x`, `q` alone reaches `k`, and each reaches itself.

@@ -14,7 +14,8 @@ use Rattle.gg_flat.specs.State.{State, IsState}
 use Rattle.gg_flat.specs.Settled.{Settled, IsInputs, driver_value}
 use Rattle.gg_flat.specs.Run.{Start, later, opening_start, IsRunFrom, IsRun, IsColumns, state_at, row_at, inputs_at}
 use Rattle.gg_flat.specs.Order.{IsOrder}
-use Rattle.gg_flat.specs.Along.{with_signal, settled_along, rows_from, rows_along}
+use Rattle.gg_flat.specs.Along.{with_signal, settled_along, rows_from}
+use Rattle.gg_flat.specs.inside.Along.{rows_along}
 use Rattle.gg_flat.proofs.TypedLemmas.{AreTyped-zeros, HasSource-from, driver_value-fits}
 use Rattle.gg_order.proofs.RunsLemmas.SettleLemmas.{Partly, Partly-none, Partly-more, Settled-from_Partly}
 use Rattle.gg_order.proofs.RunsLemmas.RunLemmas.{IsRunFrom-none, IsRunFrom-push}

@@ -7,7 +7,8 @@ use Rattle.gg_flat.specs.Circuit.{FlatCircuit}
 use Rattle.gg_flat.specs.Clock.{edges_at}
 use Rattle.gg_flat.specs.State.{State, next_state}
 use Rattle.gg_flat.specs.Settled.{Settled}
-use Rattle.gg_flat.specs.Run.{Start, later, IsRunFrom, state_at, row_at, inputs_at, after_rows}
+use Rattle.gg_flat.specs.Run.{Start, later, IsRunFrom, state_at, row_at, inputs_at}
+use Rattle.gg_flat.specs.inside.Run.{after_rows}
 
 module _ (circuit : FlatCircuit) (start : Start) where
   -- more rows don't change the states before them

@@ -13,7 +13,8 @@ use Rattle.gg_flat.specs.declared.memory.Memory.{Memory}
 use Rattle.gg_flat.specs.Memory.{Bank, found_word, read_word, next_words, next_read, late_reads, next_reads, next_bank, read_count, IsBank}
 use Rattle.gg_flat.specs.Clock.{ticks}
 use Rattle.gg_flat.specs.Line.{value_at}
-use Rattle.gg_flat.specs.Served.{Access, ByReader, ByWriter, AccessNames, SomeNames, MemoryNames, by_readers, by_writers, due_of, due_list, written, after_access, after_accesses}
+use Rattle.gg_flat.specs.Served.{Access, ByReader, ByWriter, by_readers, by_writers, due_of, written, after_access}
+use Rattle.gg_flat.specs.inside.Served.{AccessNames, SomeNames, MemoryNames, due_list, after_accesses}
 use Rattle.gg_flat.proofs.WordLemmas.{written-all}
 
 -- what a memory holds, from its words and its read registers

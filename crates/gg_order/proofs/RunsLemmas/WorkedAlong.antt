@@ -1,7 +1,7 @@
 -- What is computed along an order is a run, for the circuits of gg_flat's WorkedCircuits.
 use Rattle.std.proofs.Common.{[]}
 use Rattle.gg_flat.specs.Run.{IsRun}
-use Rattle.gg_flat.specs.Along.{rows_along}
+use Rattle.gg_flat.specs.inside.Along.{rows_along}
 use Rattle.gg_flat.proofs.WorkedCircuits.{counter, counter_order, toggle, toggle_order, loaded, loaded_order}
 use Rattle.gg_flat.proofs.WorkedRows.{counter_inputs, loaded_inputs}
 use Rattle.gg_flat.proofs.WorkedForms.{toggle-formed, toggle-ordered, toggle-columns, loaded-formed, loaded-ordered, loaded-columns, counter-formed, counter-ordered, counter-columns}

@@ -17,7 +17,7 @@ use Rattle.gg_flat.specs.WellFormed.{MayDrive, IsClock, IsClockedMemory, IsReade
 use Rattle.gg_flat.specs.Order.{IsOrder}
 use Rattle.gg_flat.specs.Settled.{in_shapes}
 use Rattle.gg_flat.specs.Run.{IsRun, IsColumns, inputs_at}
-use Rattle.gg_flat.specs.Along.{rows_along}
+use Rattle.gg_flat.specs.inside.Along.{rows_along}
 use Rattle.gg_order.proofs.RunsLemmas.AlongLemmas.{IsRun-along}
 use Rattle.gg_flat.proofs.WorkedCircuits.{eight, value}
 use Rattle.gg_flat.proofs.WorkedForms.{only, both, three, four, five, apart, other, same}

@@ -1,6 +1,6 @@
 //! Groups of out-signals.
 ghost use Rattle.std.specs.Prelude.{◌≡◌, ◌<◌, length};
-ghost use Rattle.gg_order.specs.needs.Groups.{IsGroup};
+ghost use Rattle.gg_order.specs.inside.Groups.{IsGroup};
 
 use crate::needs::marks::MOST;
 

@@ -2,7 +2,7 @@
 ghost use Rattle.std.specs.Prelude.{◌≡◌, ◌↔◌, ℕ, ◌<◌, ◌^◌, length, IsTrue};
 ghost use Rattle.std.specs.Int.{bit_at};
 ghost use Rattle.gg_flat.specs.Reads.{Names, NamesSignal};
-ghost use Rattle.gg_order.specs.needs.Marks.{Adds};
+ghost use Rattle.gg_order.specs.inside.NeedsMarks.{Adds};
 
 use gg_flat::{Driver, Node, Op};
 

@@ -5,9 +5,9 @@ ghost use Rattle.gg_flat.specs.Circuit.{driver_at};
 ghost use Rattle.gg_flat.specs.WellFormed.{IsWellFormed};
 ghost use Rattle.gg_flat.specs.InOrder.{IsInOrder};
 ghost use Rattle.gg_order.specs.needs.Needs.{AreNeedsOfOuts};
-ghost use Rattle.gg_order.specs.needs.Walk.{AreMarkedIns};
-ghost use Rattle.gg_order.specs.needs.Marks.{marks_of, any_marks};
-ghost use Rattle.gg_order.specs.needs.Groups.{AreNeedsSoFar};
+ghost use Rattle.gg_order.specs.inside.Walk.{AreMarkedIns};
+ghost use Rattle.gg_order.specs.inside.NeedsMarks.{marks_of, any_marks};
+ghost use Rattle.gg_order.specs.inside.Groups.{AreNeedsSoFar};
 
 use crate::needs::groups::group_from;
 use crate::needs::marks::has_mark;

@@ -2,7 +2,7 @@
 ghost use Rattle.std.specs.Prelude.{◌≡◌, ℕ, ◌<◌, ◌≤◌, length, replicate, IfOk, All};
 ghost use Rattle.gg_flat.specs.WellFormed.{IsWellFormed};
 ghost use Rattle.gg_flat.specs.InOrder.{IsInOrder};
-ghost use Rattle.gg_order.specs.needs.Walk.{AreOwn, AreReached, HandsOn};
+ghost use Rattle.gg_order.specs.inside.Walk.{AreOwn, AreReached, HandsOn};
 
 use crate::needs::marks::{add_driver, add_mark, one_mark};
 use gg_flat::Piece;

@@ -2,7 +2,7 @@
 ghost use Rattle.std.specs.Prelude.{◌≡◌, ℕ, ◌<◌, length, All, IfOk};
 ghost use Rattle.gg_bits.specs.Shape.{shape};
 ghost use Rattle.gg_flat.specs.declared.memory.Memory as memories;
-ghost use Rattle.gg_flat.specs.Line.{HasValue};
+ghost use Rattle.gg_flat.specs.inside.Line.{HasValue};
 ghost use Rattle.gg_flat.specs.Memory.{opening_bank, next_bank, next_words, late_reads, read_word, IsBank, LooksAmong, WritesAmong};
 ghost use Rattle.gg_flat.specs.Served.{ByReader, ByWriter, after_access, written};
 ghost use Rattle.gg_flat.specs.WellFormed.{IsMemory};

@@ -7,11 +7,11 @@ ghost use Rattle.gg_flat.specs.Settled.{Settled};
 ghost use Rattle.gg_flat.specs.Order.{IsOrder};
 ghost use Rattle.gg_flat.specs.declared.memory.Memory.{Memory};
 ghost use Rattle.gg_flat.specs.Memory.{Bank, IsBank, next_bank};
-ghost use Rattle.gg_flat.specs.Served.{due_list, after_accesses};
-ghost use Rattle.gg_order.specs.runs.AccessLaws.{ServesOneMore, AccessKeepsBank};
-ghost use Rattle.gg_order.specs.runs.AgreeLaws.{DriverNeedsItsNames, RegisterNeedsItsNames, MemoryNeedsItsNames, AccessNeedsItsNames};
-ghost use Rattle.gg_order.specs.runs.RunLaws.{RunsOnce, OpensOnce, RunsAlong, OpensAlong, StatesAreTyped, RunsJoin, FirstRowsRun, LastRowsRun};
-ghost use Rattle.gg_order.specs.runs.SettledLaws.{DependsOnReached, SettlesAlong};
+ghost use Rattle.gg_flat.specs.inside.Served.{due_list, after_accesses};
+ghost use Rattle.gg_order.specs.inside.AccessLaws.{ServesOneMore, AccessKeepsBank};
+ghost use Rattle.gg_order.specs.inside.AgreeLaws.{DriverNeedsItsNames, RegisterNeedsItsNames, MemoryNeedsItsNames, AccessNeedsItsNames};
+ghost use Rattle.gg_order.specs.inside.RunLaws.{RunsOnce, OpensOnce, RunsAlong, OpensAlong, StatesAreTyped, RunsJoin, FirstRowsRun, LastRowsRun};
+ghost use Rattle.gg_order.specs.inside.SettledLaws.{DependsOnReached, SettlesAlong};
 
 /// If a circuit has an order, there is at most one settled row for a state and a list of inputs.
 pub fn settled_once()

@@ -2,12 +2,13 @@
 ghost use Rattle.std.specs.Prelude.{◌≡◌, ◌<◌, ◌≤◌, length, map, All, IfOk};
 ghost use Rattle.gg_flat.specs.State.{opening, next_state, next_registers, IsState};
 ghost use Rattle.std.specs.Borrow.{sem};
-ghost use Rattle.gg_order.specs.runs.Lent.{LendsBank};
+ghost use Rattle.gg_order.specs.inside.Lent.{LendsBank};
 ghost use Rattle.gg_flat.specs.Memory.{bank_at, opening_bank, next_banks, AreBanks};
 ghost use Rattle.gg_flat.specs.WellFormed.{IsWellFormed, IsRegister, IsMemory};
 ghost use Rattle.gg_order.specs.runs.Room.{HasRoom, register_length};
 ghost use Rattle.gg_flat.specs.Circuit.{signal_shapes};
-ghost use Rattle.gg_flat.specs.Line.{AreTyped, HasValue};
+ghost use Rattle.gg_flat.specs.Line.{AreTyped};
+ghost use Rattle.gg_flat.specs.inside.Line.{HasValue};
 ghost use Rattle.gg_bits.specs.Shape.{shape};
 
 use crate::runs::bank::Bank;

@@ -1,8 +1,9 @@
 //! The values that drivers give, and those that registers take, computed without allocating.
 ghost use Rattle.std.specs.Prelude.{◌≡◌, ◌≤◌, length};
 ghost use Rattle.gg_bits.specs.Shape.{shape, Fits};
-ghost use Rattle.gg_flat.specs.Line.{HasValue};
-ghost use Rattle.gg_flat.specs.Settled.{HasSource, driver_value};
+ghost use Rattle.gg_flat.specs.inside.Line.{HasValue};
+ghost use Rattle.gg_flat.specs.inside.Settled.{HasSource};
+ghost use Rattle.gg_flat.specs.Settled.{driver_value};
 ghost use Rattle.gg_order.specs.runs.Room.{line_length, register_length};
 ghost use Rattle.gg_flat.specs.WellFormed.{IsRegister};
 ghost use Rattle.gg_flat.specs.State.{next_register};

@@ -1,9 +1,10 @@
 -- A text can be lengthened by any line.
 use Rattle.std.proofs.Common.{ℕ, ◌+◌, ◌≤◌, List, [], ◌∷◌, ◌++◌, length, refl, sym, ap, ◌∙◌, subst, inl, inr, arith, append_assoc}
 use Rattle.gg_trace.specs.Fields.{text_lines}
-use Rattle.gg_trace.specs.Lined.{AreLines, HasNoFeed, IsEnded, IsLastLine}
+use Rattle.gg_trace.specs.inside.Lined.{AreLines, HasNoFeed, IsEnded, IsLastLine}
 use Rattle.gg_trace.proofs.LinedLaws.{are_lines, lines_are}
-use Rattle.gg_replay.specs.steps_file.Spelling.{IsLine, IsLengthened}
+use Rattle.gg_replay.specs.inside.Spelling.{IsLine}
+use Rattle.gg_replay.specs.steps_file.Spelling.{IsLengthened}
 
 -- These bytes behind the text make one more line of it.
 record IsAdded (text line added : List ℕ) (lines : List (List ℕ)) : Type 0 where

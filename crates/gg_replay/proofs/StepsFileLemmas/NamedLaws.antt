@@ -7,11 +7,11 @@ use Rattle.std.specs.Str.{bytes_eq}
 use Rattle.std.proofs.lemmas.Iterator.Adapters.{position_from-zero}
 use Rattle.std.proofs.lemmas.Slice.Eq.{bytes_eq-Decides}
 use Rattle.gg_trace.specs.Fields.{is_blank}
-use Rattle.gg_trace.specs.Parted.{HasNoBlank}
+use Rattle.gg_trace.specs.inside.Parted.{HasNoBlank}
 use Rattle.gg_trace.proofs.PartedLaws.{no_byte, more_plain}
 use Rattle.gg_replay.specs.steps_file.Naming.{first_place}
 use Rattle.gg_replay.specs.steps_file.Words.{words}
-use Rattle.gg_replay.specs.steps_file.Spelling.{GoesBy, StartsWith}
+use Rattle.gg_replay.specs.inside.Spelling.{GoesBy, StartsWith}
 use Rattle.gg_replay.proofs.StepsFileLemmas.WordLaws.{words-last, words-front}
 
 -- the first place of a name

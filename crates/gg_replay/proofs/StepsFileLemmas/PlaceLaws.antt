@@ -11,7 +11,7 @@ use Rattle.std.specs.Str.{bytes_eq}
 use Rattle.std.proofs.lemmas.Iterator.Adapters.{position_from-zero}
 use Rattle.std.proofs.lemmas.Slice.Eq.{bytes_eq-Decides}
 use Rattle.gg_replay.specs.steps_file.Naming.{first_place}
-use Rattle.gg_replay.specs.steps_file.Table.{TellsNames}
+use Rattle.gg_replay.specs.inside.Table.{TellsNames}
 
 -- after one more name, a name that had a place keeps it, and a new name has the next place
 abbrev pub place_after : Option ℕ → Bool → ℕ → Option ℕ

@@ -6,11 +6,11 @@ use Rattle.std.specs.Str.{bytes_eq}
 use Rattle.std.proofs.lemmas.Slice.Eq.{bytes_eq-Decides}
 use Rattle.gg_net.specs.declared.event.Event.{Event}
 use Rattle.gg_net.specs.declared.event.Event.TheVariants.{Latch, Fire, Serve, Finish}
-use Rattle.gg_trace.specs.Parted.{HasNoBlank}
+use Rattle.gg_trace.specs.inside.Parted.{HasNoBlank}
 use Rattle.gg_replay.specs.steps_file.Naming.{Naming, first_place, ports_at}
 use Rattle.gg_replay.specs.steps_file.Words.{words}
 use Rattle.gg_replay.specs.steps_file.Steps.{named_step, served_step, step_of_words, step_of}
-use Rattle.gg_replay.specs.steps_file.Spelling.{StartsWith, Spells}
+use Rattle.gg_replay.specs.inside.Spelling.{StartsWith, Spells}
 use Rattle.gg_replay.proofs.StepsFileLemmas.NamedLaws.{AreWordsOf, names-goes, goes-names, words-are, latch-plain, fire-plain, finish-plain, serve-plain, words-two, words-three}
 
 of_some : {A B : Type 0} (f : A → B) (o : Option A) (y : B) → option_map f o ≡ Some y → (x : A) × (o ≡ Some x) × (f x ≡ y)

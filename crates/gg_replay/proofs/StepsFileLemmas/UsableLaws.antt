@@ -6,10 +6,10 @@ use Rattle.std.proofs.lemmas.Bool.{cases_lt}
 use Rattle.std.proofs.lemmas.List.Sums.{AllPass-from_list_all}
 use Rattle.gg_net.specs.declared.event.Event.{Event}
 use Rattle.gg_net.specs.declared.event.Event.TheVariants.{Latch, Fire, Serve, Finish}
-use Rattle.gg_trace.specs.Lined.{HasNoFeed}
-use Rattle.gg_trace.specs.Parted.{HasNoBlank}
+use Rattle.gg_trace.specs.inside.Lined.{HasNoFeed}
+use Rattle.gg_trace.specs.inside.Parted.{HasNoBlank}
 use Rattle.gg_replay.specs.steps_file.Naming.{Naming, name_at, ports_at}
-use Rattle.gg_replay.specs.steps_file.Spelling.{AreUsable, GoesBy, HasNames, IsLine, IsUsable, Spells, StartsWith}
+use Rattle.gg_replay.specs.inside.Spelling.{AreUsable, GoesBy, HasNames, IsLine, IsUsable, Spells, StartsWith}
 
 -- ---- names
 

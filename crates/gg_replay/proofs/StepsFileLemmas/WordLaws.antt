@@ -5,7 +5,7 @@ use Rattle.std.proofs.lemmas.List.Splits.{slice_split_at, slice_split_first, sli
 use Rattle.std.proofs.lemmas.List.Sums.{position_or_len_is}
 use Rattle.std.proofs.lemmas.List.{get_or_default}
 use Rattle.gg_trace.specs.Fields.{is_blank}
-use Rattle.gg_trace.specs.Parted.{HasNoBlank}
+use Rattle.gg_trace.specs.inside.Parted.{HasNoBlank}
 use Rattle.gg_replay.specs.steps_file.Words.{words}
 
 -- a line without a blank is one word

@@ -9,7 +9,8 @@ use Rattle.gg_replay.specs.steps_file.Naming.{Naming, first_place}
 use Rattle.gg_replay.specs.steps_file.Words.{words}
 use Rattle.gg_replay.specs.steps_file.Steps.{step_of, steps_of}
 use Rattle.gg_replay.specs.steps_file.Cause.{cause_text}
-use Rattle.gg_replay.specs.steps_file.Spelling.{AreUsable, IsLengthened}
+use Rattle.gg_replay.specs.inside.Spelling.{AreUsable}
+use Rattle.gg_replay.specs.steps_file.Spelling.{IsLengthened}
 
 -- Two memories have a port `r`, at different places. Channel 2 and machine 3 have the name of an earlier one.
 abbrev net : Naming

@@ -1,6 +1,6 @@
 -- The words of a line of a steps file.
 -- Source: this program's own form: there is one blank, a space or a tab, between words.
-use Rattle.std.specs.Prelude.{ℕ, List, [], Option, Some, None}
+use Rattle.std.specs.Prelude.{ℕ, List}
 use Rattle.std.specs.List.{slice_split}
 use Rattle.gg_trace.specs.Fields.{is_blank}
 
@@ -8,8 +8,3 @@ use Rattle.gg_trace.specs.Fields.{is_blank}
 -- a row, and beside a blank at an end of the line.
 unfoldable pub words : List ℕ → List (List ℕ)
 words line = slice_split is_blank line
-
--- the words of what is left of a line; none if nothing is left
-abbrev pub words_left : Option (List ℕ) → List (List ℕ)
-words_left None = []
-words_left (Some line) = words line

@@ -4,7 +4,8 @@ ghost use Rattle.std.specs.Prelude.{◌≡◌, ℕ, List, Some};
 ghost use Rattle.gg_net.specs.declared.event.Event.{Event};
 ghost use Rattle.gg_replay.specs.steps_file.Naming.{Naming};
 ghost use Rattle.gg_replay.specs.steps_file.Steps.{step_of};
-ghost use Rattle.gg_replay.specs.steps_file.Spelling.{HasNames, IsLengthened, IsLine, IsUsable, Spells};
+ghost use Rattle.gg_replay.specs.inside.Spelling.{HasNames, IsLine, IsUsable, Spells};
+ghost use Rattle.gg_replay.specs.steps_file.Spelling.{IsLengthened};
 
 /// A line is read as a step exactly if it spells that step. So it spells at most one step.
 pub fn steps_are_spelt()

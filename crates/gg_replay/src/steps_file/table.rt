@@ -2,7 +2,7 @@
 
 ghost use Rattle.std.specs.Prelude.{◌≡◌, ℕ, List, [], ◌∷◌, ◌++◌, ◌<◌, ◌^◌, length, slice_get, option_map, IfOk, OnOk, OnErr};
 ghost use Rattle.gg_replay.specs.steps_file.Naming.{first_place};
-ghost use Rattle.gg_replay.specs.steps_file.Table.{TellsNames};
+ghost use Rattle.gg_replay.specs.inside.Table.{TellsNames};
 
 use gg_bits::Name;
 use std::alloc::{AllocError, Global};
@@ -25,7 +25,7 @@ impl Drop for NameTable<'_> {
 
 impl<'a> Model for NameTable<'a> {
     ghost use Rattle.std.specs.Prelude.{ℕ, List, map};
-    ghost use Rattle.gg_replay.specs.steps_file.Table.{TellsNames};
+    ghost use Rattle.gg_replay.specs.inside.Table.{TellsNames};
 
     ghost Value = { List (List ℕ) };
 

@@ -2,7 +2,8 @@
 
 ghost use Rattle.std.specs.Prelude.{◌≡◌, ◌∷◌, [], MatchOption};
 ghost use Rattle.std.specs.Option.{option_copied};
-ghost use Rattle.gg_replay.specs.steps_file.Words.{words, words_left};
+ghost use Rattle.gg_replay.specs.steps_file.Words.{words};
+ghost use Rattle.gg_replay.specs.inside.Words.{words_left};
 
 use gg_trace::run_len;
 use std::marker::Model;
@@ -20,7 +21,7 @@ impl<'a> Model for Words<'a> {
 
     ghost Value = { List (List ℕ) };
 
-    ghost use Rattle.gg_replay.specs.steps_file.Words.{words_left};
+    ghost use Rattle.gg_replay.specs.inside.Words.{words_left};
 
     ghost view = { λ a. words_left (option_copied a.rest) };
 }

@@ -17,10 +17,10 @@ use Rattle.gg_flat.specs.State.{IsState, State, opening}
 use Rattle.gg_snap.specs.declared.text.row.At.{At}
 use Rattle.gg_snap.specs.declared.text.row.At.TheVariants.{Register, Read, Words}
 use Rattle.gg_snap.specs.declared.text.row.Row.{Row}
-use Rattle.gg_snap.specs.text.Draft.{HasValue, with_value}
+use Rattle.gg_snap.specs.inside.Draft.{HasValue, with_value}
 use Rattle.gg_snap.specs.text.Known.{IsAt, IsElsewhere, IsKnown}
 use Rattle.gg_snap.specs.text.Lines.{value_of}
-use Rattle.gg_snap.specs.text.Places.{Place, places, places_from}
+use Rattle.gg_snap.specs.inside.Places.{Place, places, places_from}
 use Rattle.gg_snap.proofs.TextLemmas.PlaceLemmas.{AreFit, AreZero}
 
 -- ---- lists

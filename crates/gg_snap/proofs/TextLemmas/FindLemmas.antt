@@ -9,8 +9,8 @@ use Rattle.gg_snap.specs.declared.text.reading.Cursor.{Cursor}
 use Rattle.gg_snap.specs.declared.text.row.Row.{Row}
 use Rattle.gg_snap.specs.text.Known.{AllDiffer, AreKnown, DiffersFrom, IsKnown}
 use Rattle.gg_snap.specs.text.Lines.{head_of, line_of, tail_of}
-use Rattle.gg_snap.specs.text.Draft.{with_value}
-use Rattle.gg_snap.specs.text.Places.{IsLineOfNone, IsTaken, Place, Skips, behind, left, places, places_from}
+use Rattle.gg_snap.specs.inside.Draft.{with_value}
+use Rattle.gg_snap.specs.inside.Places.{IsLineOfNone, IsTaken, Place, Skips, behind, left, places, places_from}
 use Rattle.gg_snap.proofs.TextLemmas.LineLemmas.{heads-apart}
 
 pub left-zero : (rows : List Row) → left rows 0 ≡ places rows

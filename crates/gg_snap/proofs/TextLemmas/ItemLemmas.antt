@@ -2,7 +2,7 @@
 use Rattle.std.proofs.Common.{◌≡◌, ℕ, zero, suc, ◌<◌, ◌^◌, List, [], ◌∷◌, ◌++◌, length, take, drop, get_or, refl, sym, ap, ◌∙◌, subst, arith, ◌⊎◌, inl, inr}
 use Rattle.std.specs.Prelude.{⊤}
 use Rattle.gg_snap.specs.text.Lines.{line_of}
-use Rattle.gg_snap.specs.text.Places.{Place, IsLineOfNone}
+use Rattle.gg_snap.specs.inside.Places.{Place, IsLineOfNone}
 
 -- a line that isn't there, or one that is
 pub data Item : Type 0 where

@@ -15,8 +15,8 @@ use Rattle.gg_snap.specs.declared.text.row.Kind.TheVariants as kind
 use Rattle.gg_snap.specs.declared.text.row.Row.{Row}
 use Rattle.gg_snap.specs.text.Known.{AllDiffer, DiffersFrom, Differ, IsAt, HasNo, IsElsewhere, IsKnown, IsPlain}
 use Rattle.gg_snap.specs.text.Lines.{address_text, head_of, kind_word, line_of, tail_of, value_of}
-use Rattle.gg_snap.specs.text.Draft.{with_value}
-use Rattle.gg_snap.specs.text.Places.{places, places_from}
+use Rattle.gg_snap.specs.inside.Draft.{with_value}
+use Rattle.gg_snap.specs.inside.Places.{places, places_from}
 use Rattle.gg_snap.proofs.TextLemmas.DraftLemmas.{set-beside, set-elsewhere}
 use Rattle.gg_snap.proofs.TextLemmas.FeedLemmas.{decimal-no}
 use Rattle.gg_snap.proofs.TextLemmas.PlaceLemmas.{AllTwo, AllTwo-append, AreTwo, EachTwo, TwoFrom, TwoFrom-joined}

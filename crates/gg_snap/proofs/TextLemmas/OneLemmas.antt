@@ -27,14 +27,14 @@ use Rattle.gg_snap.specs.declared.text.row.At.TheVariants.{Register, Read}
 use Rattle.gg_snap.specs.declared.text.row.Kind.TheVariants as kind
 use Rattle.gg_snap.specs.declared.text.row.Row.{Row}
 use Rattle.gg_snap.specs.text.Known.{AreKnown, CanSave, IsKnown}
-use Rattle.gg_snap.specs.text.Whole.{IsWhole}
+use Rattle.gg_snap.specs.inside.TextWhole.{IsWhole}
 use Rattle.gg_snap.specs.text.Table.{by_path, channel_of, memory_row, memory_rows, pipe_named, pipe_row, pipe_rows, read_row, read_rows, register_named, register_row, register_rows, rows_of}
 use Rattle.gg_snap.specs.text.Lines.{address_text, cycle_line, head_of, line_of, snap_lines, tail_of, value_lines, value_of}
 use Rattle.gg_snap.specs.text.Standing.{CanStand, IsFirstFault, IsSnap, Lacks, Stops, pieces}
 use Rattle.gg_snap.proofs.TextLemmas.FeedLemmas.{IsPlainRow, snap-begins, snap-pieces}
 use Rattle.gg_snap.proofs.TextLemmas.PlainLemmas.{rows-plain}
 use Rattle.gg_snap.proofs.TextLemmas.TableLemmas.{word-known}
-use Rattle.gg_snap.specs.text.Places.{Place, places, places_from}
+use Rattle.gg_snap.specs.inside.Places.{Place, places, places_from}
 use Rattle.gg_snap.proofs.TextLemmas.ItemLemmas.{AllApart, Are, Item, Off, On, first-text, none-else, texts}
 use Rattle.gg_snap.proofs.TextLemmas.DraftLemmas.{fit-places}
 use Rattle.gg_snap.proofs.TextLemmas.LineLemmas.{places-two, same-decimal}

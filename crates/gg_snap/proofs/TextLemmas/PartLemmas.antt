@@ -8,7 +8,7 @@ use Rattle.gg_flat.specs.Line.{value_at}
 use Rattle.gg_flat.specs.Memory.{Bank, bank_at}
 use Rattle.gg_flat.specs.State.{State}
 use Rattle.gg_flat.proofs.ListLemmas.{Contains-cases}
-use Rattle.gg_snap.specs.text.Parts.{HasPart, HasSizeOf, IsPartState, put}
+use Rattle.gg_snap.specs.inside.Parts.{HasPart, HasSizeOf, IsPartState, put}
 
 -- ---- lists of any items, with a default
 

@@ -7,8 +7,8 @@ use Rattle.std.proofs.lemmas.Bool.Decides.{nat_tests}
 use Rattle.gg_flat.specs.State.{State}
 use Rattle.gg_snap.specs.declared.text.row.Row.{Row}
 use Rattle.gg_snap.specs.text.Lines.{line_of, shown, value_lines, value_of}
-use Rattle.gg_snap.specs.text.Draft.{with_value}
-use Rattle.gg_snap.specs.text.Places.{Place, places, places_from}
+use Rattle.gg_snap.specs.inside.Draft.{with_value}
+use Rattle.gg_snap.specs.inside.Places.{Place, places, places_from}
 use Rattle.gg_snap.proofs.TextLemmas.ItemLemmas.{Item, Off, On, texts, Are, IsApart, ApartFrom, AllApart}
 
 -- the value of a place

@@ -10,8 +10,8 @@ use Rattle.gg_snap.specs.declared.text.reading.Cursor.{Cursor}
 use Rattle.gg_snap.specs.declared.text.row.Row.{Row}
 use Rattle.gg_snap.specs.text.Known.{AreKnown, IsKnown}
 use Rattle.gg_snap.specs.text.Lines.{line_of, value_lines}
-use Rattle.gg_snap.specs.text.Draft.{with_value}
-use Rattle.gg_snap.specs.text.Places.{Ends, IsLineOfNone, IsTaken, Place, behind, left, places, places_from}
+use Rattle.gg_snap.specs.inside.Draft.{with_value}
+use Rattle.gg_snap.specs.inside.Places.{Ends, IsLineOfNone, IsTaken, Place, behind, left, places, places_from}
 use Rattle.gg_snap.specs.text.Standing.{pieces}
 use Rattle.gg_snap.proofs.TextLemmas.ItemLemmas.{HasLine, IsTight, none-has, one-more, texts, tight-push}
 use Rattle.gg_snap.proofs.TextLemmas.PlaceLemmas.{AllTwo, AreFit, AreSame, AreZero, all-apart, are-items, fit-behind, fit-front, items, items-append, items-one, line-added, lines-append, lines-of-rows, lines-texts, lines-zero, place_lines, same-back, same-front, value_at_place, zero-behind, zero-same}

@@ -10,9 +10,9 @@ use Rattle.gg_flat_tree.specs.Tree.{InstanceTree}
 use Rattle.gg_flat.proofs.StateLemmas.{IsState-opening}
 use Rattle.gg_snap.specs.text.Lines.{cycle_line, first_line, value_lines}
 use Rattle.gg_snap.specs.text.Table.{rows_of}
-use Rattle.gg_snap.specs.text.Places.{Ends}
+use Rattle.gg_snap.specs.inside.Places.{Ends}
 use Rattle.gg_snap.specs.text.Standing.{CanStand, IsFirstFault, IsSnap, Lacks, Stops, pieces, with_byte}
-use Rattle.gg_snap.specs.text.Heading.{IsHeadingFault, NoLine, NotFirst, NoSecond, NotSecond}
+use Rattle.gg_snap.specs.inside.Heading.{IsHeadingFault, NoLine, NotFirst, NoSecond, NotSecond}
 
 -- ---- a text is its lines, one after another
 

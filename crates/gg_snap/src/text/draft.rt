@@ -3,8 +3,8 @@ ghost use Rattle.std.specs.Prelude.{◌≡◌, ◌<◌, ◌++◌, ℕ, All, leng
 ghost use Rattle.gg_flat.specs.Line.{value_at};
 ghost use Rattle.gg_flat.specs.Memory.{bank_at, opening_bank};
 ghost use Rattle.gg_flat.specs.State.{State, opening};
-ghost use Rattle.gg_snap.specs.text.Parts.{HasPart, HasSizeOf, IsPartState, put};
-ghost use Rattle.gg_snap.specs.text.Draft.{HasValue, with_value};
+ghost use Rattle.gg_snap.specs.inside.Parts.{HasPart, HasSizeOf, IsPartState, put};
+ghost use Rattle.gg_snap.specs.inside.Draft.{HasValue, with_value};
 
 use crate::text::row::At;
 use gg_flat::{Memory, Piece};

@@ -1,7 +1,7 @@
 //! The first two lines of a snapshot.
 ghost use Rattle.std.specs.Prelude.{◌≡◌, ◌≢◌, ◌≤◌, ◌∷◌, ℕ, Some, IfOk, IfErr, IfSome, MatchOption, length};
 ghost use Rattle.gg_bits.specs.Limits.{cycle_limit};
-ghost use Rattle.gg_snap.specs.text.Heading.{IsHeadingFault};
+ghost use Rattle.gg_snap.specs.inside.Heading.{IsHeadingFault};
 ghost use Rattle.gg_snap.specs.text.Lines.{cycle_line, first_line};
 ghost use Rattle.gg_snap.specs.text.Standing.{IfFault, pieces};
 

@@ -5,7 +5,7 @@ ghost use Rattle.gg_flat.specs.State.{State};
 ghost use Rattle.gg_flat_tree.specs.Tree.{InstanceTree};
 ghost use Rattle.gg_snap.specs.text.Known.{CanSave};
 ghost use Rattle.gg_snap.specs.text.Standing.{IsFirstFault, IsSnap};
-ghost use Rattle.gg_snap.specs.text.OneSnap.{SnapshotIsOne, TreesCanSave};
+ghost use Rattle.gg_snap.specs.inside.OneSnap.{SnapshotIsOne, TreesCanSave};
 
 /// The states of a circuit with its tree can be saved, if no two signals hold one register, and no path has a blank or a line feed.
 pub fn trees_can_save()

@@ -6,7 +6,7 @@ ghost use Rattle.gg_flat.specs.Circuit.{FlatCircuit};
 ghost use Rattle.gg_flat.specs.State.{IsState, opening};
 ghost use Rattle.gg_snap.specs.text.Known.{AreKnown, IsKnown};
 ghost use Rattle.gg_snap.specs.text.Lines.{head_of, line_of};
-ghost use Rattle.gg_snap.specs.text.Places.{Ends, Finds, IsLineOfNone, IsTaken, behind};
+ghost use Rattle.gg_snap.specs.inside.Places.{Ends, Finds, IsLineOfNone, IsTaken, behind};
 
 use crate::text::cutting::cut_piece;
 use crate::text::draft::Draft;

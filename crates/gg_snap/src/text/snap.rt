@@ -40,7 +40,7 @@ impl<'a> Model for Snap<'a> {
     ghost use Rattle.std.specs.Prelude.{◌≤◌};
     ghost use Rattle.gg_flat.specs.State.{IsState};
     ghost use Rattle.gg_bits.specs.Limits.{cycle_limit};
-    ghost use Rattle.gg_snap.specs.text.Snap.{Snapshot};
+    ghost use Rattle.gg_snap.specs.inside.Snap.{Snapshot};
 
     ghost Value = { Snapshot };
 

@@ -5,7 +5,7 @@ ghost use Rattle.std.specs.List.{concat};
 ghost use Rattle.gg_flat.specs.State.{IsState};
 ghost use Rattle.gg_flat.specs.Circuit.{FlatCircuit};
 ghost use Rattle.gg_trace.specs.Printing.{hex_digits};
-ghost use Rattle.gg_snap.specs.text.Draft.{HasValue};
+ghost use Rattle.gg_snap.specs.inside.Draft.{HasValue};
 ghost use Rattle.gg_snap.specs.text.Known.{AreKnown, IsKnown};
 ghost use Rattle.gg_snap.specs.text.Lines.{address_text, cycle_line, line_of, row_lines, shown, snap_text, value_lines, value_of};
 

@@ -7,10 +7,11 @@ use Rattle.gg_flat.specs.Circuit.{signal_shapes}
 use Rattle.gg_flat.specs.Line.{value_at, shape_at}
 use Rattle.gg_flat.specs.Settled.{IsInputs, in_shapes}
 use Rattle.gg_flat_tree.specs.Tree.{path_at}
-use Rattle.gg_bridge.specs.Joined.{CanJoin}
-use Rattle.gg_bridge.specs.Echo.{echo_piece}
-use Rattle.gg_bridge.specs.Hosted.{ArePorts}
-use Rattle.gg_bridge.specs.Ports.{CanStand, IsAmong, front_of}
+use Rattle.gg_bridge.specs.inside.Joined.{CanJoin}
+use Rattle.gg_bridge.specs.inside.Echo.{echo_piece}
+use Rattle.gg_bridge.specs.inside.Hosted.{ArePorts}
+use Rattle.gg_bridge.specs.inside.Ports.{CanStand, IsAmong}
+use Rattle.gg_bridge.specs.Ports.{front_of}
 
 module _ (ty : Ty) where
   fresh : (s i : ℕ) → s < 2 → i < 2 → path_at (echo_piece ty).paths s ≢ front_of (codes "echo8") ++ path_at (echo_piece ty).paths i

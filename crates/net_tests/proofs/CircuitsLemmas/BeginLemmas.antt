@@ -32,8 +32,9 @@ use Rattle.gg_cut_reference.proofs.WholeLemmas.PlanLemmas.{circuit-formed, circu
 use Rattle.gg_cut_reference.proofs.WholeLemmas.StateLemmas.{states-with}
 use Rattle.gg_build.specs.plan.Built.{IsGiven, flow_of}
 use Rattle.gg_build.specs.declared.begin.Begin.{Begin}
-use Rattle.gg_build.specs.Begin.{AreTokens}
-use Rattle.gg_build.specs.Build.{IsToBegin, circuit_order}
+use Rattle.gg_build.specs.inside.Begin.{AreTokens}
+use Rattle.gg_build.specs.inside.Build.{IsToBegin}
+use Rattle.gg_build.specs.Build.{circuit_order}
 
 -- ---- rows by cycle
 

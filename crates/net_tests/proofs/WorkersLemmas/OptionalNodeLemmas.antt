@@ -11,9 +11,9 @@ use Rattle.gg_net.specs.declared.shape.Station.{Station}
 use Rattle.gg_net.specs.declared.shape.Wire.{Wire}
 use Rattle.gg_net.specs.Network.{Network, frame_of}
 use Rattle.gg_net.specs.Kept.{Kept}
-use Rattle.gg_net.specs.Queue.{Held}
-use Rattle.gg_net.specs.Stations.{hosted, stationed, machines_by, HasStation, AreStationed}
-use Rattle.gg_net.specs.Net.{AreListed, IsWithinLimits, IsNet}
+use Rattle.gg_net.specs.inside.Queue.{Held}
+use Rattle.gg_net.specs.inside.Stations.{hosted, stationed, machines_by, HasStation, AreStationed}
+use Rattle.gg_net.specs.inside.Net.{AreListed, IsWithinLimits, IsNet}
 
 -- at the one host behind, and past it, there are no threads
 none : (n : ℕ) → hosted ([] ∷ []) n ≡ []

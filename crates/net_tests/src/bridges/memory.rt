@@ -1,6 +1,6 @@
 //! With ample memory each call that allocates has an answer.
 ghost use Rattle.std.specs.Prelude.{◌≡◌, ◌<◌, ◌^◌, [], ◌∷◌, length, IfOk};
-ghost use Rattle.gg_bridge.specs.Echo.{echo_piece};
+ghost use Rattle.gg_bridge.specs.inside.Echo.{echo_piece};
 
 use gg_bits::{Ids, Name, Names};
 use gg_bridge::{Bridge, Echo, Hosted, join};

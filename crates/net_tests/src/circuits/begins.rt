@@ -1,6 +1,6 @@
 //! gg_build: networks that begin at a later cycle, with the state that the design has there.
 ghost use Rattle.std.specs.Prelude.{◌≡◌, ◌<◌, ◌≤◌, [], None, Some, IfOk};
-ghost use Rattle.gg_build.specs.Build.{IsToBegin, NeedsNone};
+ghost use Rattle.gg_build.specs.inside.Build.{IsToBegin, NeedsNone};
 ghost use Rattle.gg_cut_plan.specs.Fault.{IsSmall, first_fault_with};
 ghost use Rattle.gg_cut_plan.specs.Held.{AreHeldOnce};
 ghost use Rattle.gg_cut_plan.specs.Plan.{IsPlan};

@@ -1,10 +1,12 @@
 //! A host that may have no thread, and a network with such a host beside all others.
 ghost use Rattle.std.specs.Prelude.{◌≡◌, ℕ, ◌<◌, [], ◌∷◌, ◌++◌, length, map, is_some, slice_set, IfOk};
 ghost use Rattle.std.specs.Option.{option_map_or};
-ghost use Rattle.gg_node.specs.Machine.{machine_at, latch_at, flag_at, missing, due};
+ghost use Rattle.gg_node.specs.Machine.{machine_at, latch_at, flag_at, missing};
+ghost use Rattle.gg_node.specs.inside.Machine.{due};
 ghost use Rattle.gg_node.specs.Token.{IsToken, IsNextState};
-ghost use Rattle.gg_node.specs.Step.{MayLatch, MayFire, MayServe, MayFinish, with_latch, with_flag, with_served, finished};
-ghost use Rattle.gg_build.specs.Node.{machines_of};
+ghost use Rattle.gg_node.specs.inside.Step.{MayLatch, MayFire, MayServe, MayFinish};
+ghost use Rattle.gg_node.specs.Step.{with_latch, with_flag, with_served, finished};
+ghost use Rattle.gg_build.specs.inside.Node.{machines_of};
 
 use gg_bridge::Echo;
 use gg_build::Node;
@@ -37,7 +39,7 @@ impl<'a> OptionalNode<'a> {
 impl<'a> Host for OptionalNode<'a> {
     ghost use Rattle.std.specs.Prelude.{[]};
     ghost use Rattle.std.specs.Option.{option_map_or};
-    ghost use Rattle.gg_build.specs.Node.{machines_of};
+    ghost use Rattle.gg_build.specs.inside.Node.{machines_of};
 
     ghost machines = { λ host. option_map_or machines_of host.node [] };
 

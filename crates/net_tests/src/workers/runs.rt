@@ -1,6 +1,6 @@
 //! Runs of a network by workers.
 ghost use Rattle.std.specs.Prelude.{◌≡◌, []};
-ghost use Rattle.gg_build.specs.Build.{IsToRun, NeedsNone};
+ghost use Rattle.gg_build.specs.inside.Build.{IsToRun, NeedsNone};
 ghost use Rattle.gg_cut_plan.specs.Fault.{IsSmall};
 ghost use Rattle.gg_flat.specs.Run.{IsColumns};
 ghost use Rattle.gg_part.specs.KeepsToTree.{KeepsToTree};

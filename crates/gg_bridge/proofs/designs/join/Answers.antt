@@ -1,7 +1,8 @@
 use Rattle.std.proofs.Common.{◌≡◌, ℕ, List, sym, ◌∙◌, ap, subst}
 use Rattle.gg_flat.specs.Circuit.{FlatCircuit}
 use Rattle.gg_flat.specs.WellFormed.{IsWellFormed}
-use Rattle.gg_bridge.specs.Joined.{joined, HasOrder}
+use Rattle.gg_bridge.specs.Joined.{joined}
+use Rattle.gg_bridge.specs.inside.Joined.{HasOrder}
 use Rattle.gg_bridge.proofs.designs.join.Goals as goal
 
 made : (piece one own : FlatCircuit) (front : List ℕ) (model : FlatCircuit) (sees drives : List ℕ) → piece ≡ joined one front model sees drives → one ≡ own → piece ≡ joined own front model sees drives

@@ -1,5 +1,5 @@
 use Rattle.std.proofs.Common.{subst}
-use Rattle.gg_order.specs.Fault.{IfLoop}
+use Rattle.gg_order.specs.inside.Fault.{IfLoop}
 use Rattle.gg_order.specs.Loop.{IsToldLoop}
 use Rattle.gg_bridge.proofs.designs.order_of.Goals as goal
 

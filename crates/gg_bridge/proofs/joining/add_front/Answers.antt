@@ -4,7 +4,8 @@ use Rattle.std.proofs.lemmas.List.{take_more, length-take-le}
 use Rattle.gg_flat.specs.declared.piece.Signal.{Signal}
 use Rattle.gg_flat.specs.Circuit.{FlatCircuit, no_circuit}
 use Rattle.gg_flat_tree.specs.Tree.{path_at}
-use Rattle.gg_bridge.specs.Joined.{linked, linked_signal, place_among, place_at}
+use Rattle.gg_bridge.specs.Joined.{linked, linked_signal, place_among}
+use Rattle.gg_bridge.specs.inside.Joined.{place_at}
 use Rattle.gg_bits.specs.Lists.{by_number}
 use Rattle.gg_bridge.proofs.NumberLemmas.{length-by}
 use Rattle.gg_bridge.proofs.JoinLemmas.{number-more, fresh-at, signals-grow}

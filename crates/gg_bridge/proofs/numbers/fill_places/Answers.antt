@@ -1,5 +1,5 @@
 use Rattle.std.proofs.Common.{◌+◌, length, take, sym, ◌∙◌, subst}
-use Rattle.gg_bridge.specs.Joined.{HasPlaces}
+use Rattle.gg_bridge.specs.inside.Joined.{HasPlaces}
 use Rattle.gg_bridge.proofs.PlaceLemmas.{places_kept, places_set}
 use Rattle.gg_bridge.proofs.numbers.fill_places.Goals as goal
 use Rattle.gg_bridge.proofs.numbers.fill_places.Goals.{then-is_free, else-is_free}

@@ -1,7 +1,8 @@
 use Rattle.std.proofs.Common.{◌≡◌, ◌<◌, ℕ, Bool, List, [], ◌∷◌, ◌++◌, length, Vec, Global, sym, ◌∙◌, ap, arith}
 use Rattle.std.specs.Prelude.{not, is_none}
 use Rattle.gg_flat.specs.Line.{value_at}
-use Rattle.gg_bridge.specs.Joined.{place_among, place_at}
+use Rattle.gg_bridge.specs.Joined.{place_among}
+use Rattle.gg_bridge.specs.inside.Joined.{place_at}
 use Rattle.gg_bridge.proofs.PlaceLemmas.{left-taken, left-skipped}
 use Rattle.gg_bridge.proofs.numbers.left_of.Goals as goal
 use Rattle.gg_bridge.proofs.numbers.left_of.Goals.{then-is_none+in_ok-push, else-is_none}

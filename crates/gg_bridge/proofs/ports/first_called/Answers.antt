@@ -1,5 +1,5 @@
 use Rattle.std.proofs.Common.{sym, ◌∙◌, ap, ap₂}
-use Rattle.gg_bridge.specs.Ports.{earlier, picked}
+use Rattle.gg_bridge.specs.inside.Ports.{earlier, picked}
 use Rattle.gg_bridge.proofs.CalledLemmas.{first-is, place-by, place_called}
 use Rattle.gg_bridge.proofs.ports.first_called.Goals as goal
 

@@ -4,7 +4,7 @@ use Rattle.gg_flat.specs.Line.{value_at}
 use Rattle.std.specs.Prelude.{All}
 use Rattle.gg_flat.proofs.ListLemmas.{some-item}
 use Rattle.gg_cut_plan.specs.declared.plan.Machine.{Machine}
-use Rattle.gg_build.specs.Groups.{IsHostFor}
+use Rattle.gg_build.specs.inside.Groups.{IsHostFor}
 use Rattle.gg_build.proofs.GroupLemmas.{so-far-more, so-far-all}
 use Rattle.gg_build.proofs.groups.groups_of.Goals as goal
 

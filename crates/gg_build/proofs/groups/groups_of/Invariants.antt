@@ -1,5 +1,5 @@
 use Rattle.std.proofs.Common.{map}
-use Rattle.gg_build.specs.Groups.{AreSoFar}
+use Rattle.gg_build.specs.inside.Groups.{AreSoFar}
 use Rattle.gg_build.proofs.groups.groups_of.Given as goal
 
 abbrev pub invariant-loop-number : goal.invariant-loop-number

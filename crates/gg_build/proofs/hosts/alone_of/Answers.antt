@@ -1,6 +1,6 @@
 use Rattle.std.proofs.Common.{◌≡◌, ◌<◌, ℕ, List, [], ◌∷◌, ◌++◌, Option, length, sym, ap₂, ◌∙◌, subst}
 use Rattle.std.specs.Prelude.{All}
-use Rattle.gg_part.specs.Clocking.{AreTimed}
+use Rattle.gg_part.specs.inside.Clocking.{AreTimed}
 use Rattle.gg_cut_parts.proofs.DomainTimes.{whole-timed}
 use Rattle.gg_build.proofs.hosts.alone_of.Goals as goal
 

@@ -1,6 +1,6 @@
 use Rattle.std.proofs.Common.{subst}
-use Rattle.gg_build.specs.Begin.{starts_of}
-use Rattle.gg_build.specs.Hosts.{CanBegin}
+use Rattle.gg_build.specs.inside.Begin.{starts_of}
+use Rattle.gg_build.specs.inside.Hosts.{CanBegin}
 use Rattle.gg_build.proofs.hosts.cut_host.Goals as goal
 
 pub unit_host-requires-clause-begin : goal.unit_host-requires-clause-begin

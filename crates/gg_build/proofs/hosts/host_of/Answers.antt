@@ -2,9 +2,9 @@ use Rattle.std.proofs.Common.{◌≡◌, length, sym, ap, subst, ◌∙◌}
 use Rattle.gg_cut_plan.specs.declared.plan.Body.{Body}
 use Rattle.gg_cut_plan.specs.declared.plan.Body.TheVariants.{Source}
 use Rattle.gg_flat.specs.Line.{value_at}
-use Rattle.gg_build.specs.Begin.{starts_of}
-use Rattle.gg_build.specs.Bridges.{HasOwn, KeepsOthers}
-use Rattle.gg_build.specs.Hosts.{IsSourceAt, CanBegin, CanBuild, IsBuiltWith, IsHost, outs_at}
+use Rattle.gg_build.specs.inside.Begin.{starts_of}
+use Rattle.gg_build.specs.inside.Bridges.{HasOwn, KeepsOthers}
+use Rattle.gg_build.specs.inside.Hosts.{IsSourceAt, CanBegin, CanBuild, IsBuiltWith, IsHost, outs_at}
 use Rattle.gg_build.proofs.UnitLemmas.{body-of, outs-of}
 use Rattle.gg_build.proofs.HostLemmas.{group-units, memory-hosts, source-hosts, tray-hosts, bridge-hosts}
 use Rattle.gg_build.proofs.hosts.host_of.Goals as goal

@@ -1,10 +1,10 @@
 use Rattle.std.proofs.Common.{◌≡◌, ℕ, List, map, sym, subst, ◌∙◌, arith}
 use Rattle.std.proofs.lemmas.List.{length-map}
 use Rattle.gg_flat.specs.Line.{value_at}
-use Rattle.gg_build.specs.Begin.{starts_of}
-use Rattle.gg_build.specs.Groups.{group_at}
-use Rattle.gg_build.specs.Bridges.{HasOwn, KeepsOthers}
-use Rattle.gg_build.specs.Hosts.{IsGroup, IsHostOf, body_at}
+use Rattle.gg_build.specs.inside.Begin.{starts_of}
+use Rattle.gg_build.specs.inside.Groups.{group_at}
+use Rattle.gg_build.specs.inside.Bridges.{HasOwn, KeepsOthers}
+use Rattle.gg_build.specs.inside.Hosts.{IsGroup, IsHostOf, body_at}
 use Rattle.gg_build.proofs.BridgeLemmas.{bridges-left}
 use Rattle.gg_build.proofs.GroupLemmas.{shown-at}
 use Rattle.gg_build.proofs.HostLemmas.{hosts-more}

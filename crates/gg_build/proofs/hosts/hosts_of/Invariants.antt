@@ -1,6 +1,6 @@
 use Rattle.std.proofs.Common.{map}
-use Rattle.gg_build.specs.Begin.{starts_of}
-use Rattle.gg_build.specs.Hosts.{AreHosts, HaveBridges}
+use Rattle.gg_build.specs.inside.Begin.{starts_of}
+use Rattle.gg_build.specs.inside.Hosts.{AreHosts, HaveBridges}
 use Rattle.gg_build.proofs.hosts.hosts_of.Given as goal
 
 abbrev pub invariant-loop-host : goal.invariant-loop-host

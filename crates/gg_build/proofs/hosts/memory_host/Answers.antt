@@ -6,7 +6,7 @@ use Rattle.gg_part.specs.PartRun.{part_state}
 use Rattle.gg_cut_plan.specs.declared.plan.Body.TheVariants.{Memory}
 use Rattle.gg_memunit.specs.MemoryUnit.{started_unit}
 use Rattle.gg_build.proofs.PlanLemmas.StateLemmas.{IsState-part}
-use Rattle.gg_build.specs.Begin.{starts_of}
+use Rattle.gg_build.specs.inside.Begin.{starts_of}
 use Rattle.gg_build.proofs.hosts.memory_host.Goals as goal
 
 pub from_state-requires-clause-state : goal.from_state-requires-clause-state

@@ -4,7 +4,7 @@ use Rattle.gg_flat.specs.Clock.{Ratio}
 use Rattle.gg_flat.specs.State.{IsState, State}
 use Rattle.gg_cut_plan.specs.declared.plan.Body.TheVariants.{Cut}
 use Rattle.gg_fame5.specs.Machine.{started_unit}
-use Rattle.gg_build.specs.Begin.{starts_of}
+use Rattle.gg_build.specs.inside.Begin.{starts_of}
 use Rattle.gg_build.proofs.HostLemmas.{alone-unit}
 use Rattle.gg_build.proofs.hosts.unit_of.Goals as goal
 

@@ -1,7 +1,8 @@
 use Rattle.std.proofs.Common.{◌≡◌, sym, subst}
-use Rattle.gg_net.specs.Stations.{machines_by}
-use Rattle.gg_net.specs.Net.{Opens, opening_net}
-use Rattle.gg_build.specs.Begin.{AreTokens}
+use Rattle.gg_net.specs.inside.Stations.{machines_by}
+use Rattle.gg_net.specs.inside.Net.{Opens}
+use Rattle.gg_net.specs.Net.{opening_net}
+use Rattle.gg_build.specs.inside.Begin.{AreTokens}
 use Rattle.gg_build.proofs.BeginLemmas.{begins-within}
 use Rattle.gg_build.proofs.ReadyLemmas.{all-named, all-ready, faultless}
 use Rattle.gg_build.proofs.OpenLemmas.{lists_of, opens, started}

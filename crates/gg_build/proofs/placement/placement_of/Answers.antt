@@ -6,11 +6,11 @@ use Rattle.gg_flat.specs.Line.{value_at}
 use Rattle.gg_cut_plan.specs.declared.plan.Body.{Body}
 use Rattle.gg_cut_plan.specs.declared.plan.Machine as planned
 use Rattle.gg_build.specs.declared.node.Node.{Node}
-use Rattle.gg_build.specs.Begin.{starts_of}
-use Rattle.gg_build.specs.Groups.{group_at}
-use Rattle.gg_build.specs.Node.{machines_of}
-use Rattle.gg_build.specs.Bridges.{HasOwn}
-use Rattle.gg_build.specs.Hosts.{CanBuildAll, IsGroup, AreHosts, AreStations, AreAllApart, HaveBridges, HasPorts, HaveNames, body_at}
+use Rattle.gg_build.specs.inside.Begin.{starts_of}
+use Rattle.gg_build.specs.inside.Groups.{group_at}
+use Rattle.gg_build.specs.inside.Node.{machines_of}
+use Rattle.gg_build.specs.inside.Bridges.{HasOwn}
+use Rattle.gg_build.specs.inside.Hosts.{CanBuildAll, IsGroup, AreHosts, AreStations, AreAllApart, HaveBridges, HasPorts, HaveNames, body_at}
 use Rattle.gg_build.proofs.BridgeLemmas.{bridge-told}
 use Rattle.gg_build.proofs.PlacementLemmas.{bridges-apart, bridges-there, group-can, host-known, placement-are, thread-there}
 use Rattle.gg_build.proofs.placement.placement_of.Goals as goal

@@ -1,8 +1,8 @@
 use Rattle.std.proofs.Common.{◌≡◌, map, sym, subst}
 use Rattle.std.specs.Prelude.{All}
-use Rattle.gg_net.specs.Net.{entry_of}
+use Rattle.gg_net.specs.inside.Net.{entry_of}
 use Rattle.gg_build.specs.declared.node.Node.{Node}
-use Rattle.gg_build.specs.Node.{machines_of}
+use Rattle.gg_build.specs.inside.Node.{machines_of}
 use Rattle.gg_build.proofs.HostLemmas.{unit-ports}
 use Rattle.gg_build.proofs.placement.ports_at.Goals as goal
 

@@ -5,8 +5,8 @@ use Rattle.gg_flat.specs.Line.{value_at}
 use Rattle.gg_node.specs.Machine.{machine_at}
 use Rattle.gg_build.specs.plan.Built.{nameless}
 use Rattle.gg_build.specs.declared.node.Node.{Node}
-use Rattle.gg_build.specs.Hosts.{IsStation}
-use Rattle.gg_build.specs.Node.{machines_of}
+use Rattle.gg_build.specs.inside.Hosts.{IsStation}
+use Rattle.gg_build.specs.inside.Node.{machines_of}
 use Rattle.gg_build.proofs.PlacementLemmas.{stations-more}
 use Rattle.gg_build.proofs.placement.stations_of.Goals as goal
 

@@ -1,4 +1,4 @@
-use Rattle.gg_build.specs.Hosts.{AreStations}
+use Rattle.gg_build.specs.inside.Hosts.{AreStations}
 use Rattle.gg_build.proofs.placement.stations_of.Given as goal
 
 abbrev pub invariant-loop-number : goal.invariant-loop-number

@@ -1,7 +1,7 @@
 use Rattle.std.proofs.Common.{◌≡◌, ◌++◌, length, map, take}
 use Rattle.gg_flat.specs.Served.{by_readers}
 use Rattle.gg_memunit.specs.MemoryUnit.{port_of}
-use Rattle.gg_net.specs.Net.{entry_of}
+use Rattle.gg_net.specs.inside.Net.{entry_of}
 use Rattle.gg_build.proofs.ports.add_readers.Given as goal
 
 abbrev pub invariant-loop-place : goal.invariant-loop-place

@@ -1,7 +1,7 @@
 use Rattle.std.proofs.Common.{◌≡◌, ◌++◌, map, take}
 use Rattle.gg_flat.specs.Served.{by_writers}
 use Rattle.gg_memunit.specs.MemoryUnit.{port_of}
-use Rattle.gg_net.specs.Net.{entry_of}
+use Rattle.gg_net.specs.inside.Net.{entry_of}
 use Rattle.gg_build.proofs.ports.add_writers.Given as goal
 
 abbrev pub invariant-loop-place : goal.invariant-loop-place

@@ -2,8 +2,8 @@ use Rattle.std.proofs.Common.{◌≡◌, take, length, sym, ap, ◌∙◌, arith
 use Rattle.std.proofs.Math.Seq.{take-length}
 use Rattle.gg_flat.specs.Line.{value_at}
 use Rattle.gg_cut_plan.specs.declared.plan.Body.{Body}
-use Rattle.gg_build.specs.Begin.{starts_of}
-use Rattle.gg_build.specs.Hosts.{body_at, states_for}
+use Rattle.gg_build.specs.inside.Begin.{starts_of}
+use Rattle.gg_build.specs.inside.Hosts.{body_at, states_for}
 use Rattle.gg_build.proofs.UnitLemmas.{body-of, grown-by}
 use Rattle.gg_build.proofs.starts.all_states.Goals as goal
 

@@ -1,4 +1,4 @@
-use Rattle.gg_build.specs.Hosts.{ArePlaced}
+use Rattle.gg_build.specs.inside.Hosts.{ArePlaced}
 use Rattle.gg_build.proofs.units.all_outs.Given as goal
 
 abbrev pub invariant-loop-thread : goal.invariant-loop-thread

@@ -2,7 +2,7 @@ use Rattle.std.proofs.Common.{◌<◌, length, map, sym, ap, subst, ◌∙◌}
 use Rattle.std.specs.Prelude.{All}
 use Rattle.gg_cut_plan.specs.declared.plan.Body.{Body}
 use Rattle.gg_flat.specs.Line.{value_at}
-use Rattle.gg_build.specs.Hosts.{ArePickedFor}
+use Rattle.gg_build.specs.inside.Hosts.{ArePickedFor}
 use Rattle.gg_build.proofs.UnitLemmas.{like-outs, outs-known, outs-picked}
 use Rattle.gg_build.proofs.units.outs_of.Goals as goal
 

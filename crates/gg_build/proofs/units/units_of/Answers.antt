@@ -4,9 +4,9 @@ use Rattle.std.proofs.lemmas.List.{length-map}
 use Rattle.gg_flat.specs.Circuit.{FlatCircuit}
 use Rattle.gg_flat.specs.Line.{value_at}
 use Rattle.gg_flat.specs.State.{IsState}
-use Rattle.gg_fame5.specs.Shared.{started_machines}
-use Rattle.gg_build.specs.Begin.{starts_of}
-use Rattle.gg_build.specs.Hosts.{body_at}
+use Rattle.gg_fame5.specs.inside.Shared.{started_machines}
+use Rattle.gg_build.specs.inside.Begin.{starts_of}
+use Rattle.gg_build.specs.inside.Hosts.{body_at}
 use Rattle.gg_build.proofs.UnitLemmas.{at-cycle, outs-within, run-units, states-like}
 use Rattle.gg_build.proofs.units.units_of.Goals as goal
 

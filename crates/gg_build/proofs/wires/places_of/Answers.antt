@@ -2,7 +2,7 @@ use Rattle.std.proofs.Common.{◌≡◌, ◌^◌, ◌<◌, ◌≤◌, ℕ, List,
 use Rattle.std.specs.Prelude.{All}
 use Rattle.std.proofs.lemmas.List.{length-map}
 use Rattle.gg_cut_plan.specs.declared.plan.Machine.{Machine}
-use Rattle.gg_build.specs.Wires.{IsNoted, channels_at, AreListed}
+use Rattle.gg_build.specs.inside.Wires.{IsNoted, channels_at, AreListed}
 use Rattle.gg_build.proofs.PlaceLemmas.{ArePlacedTo, placed-none, placed-more, placed-all, listed-at}
 use Rattle.gg_build.proofs.wires.places_of.Goals as goal
 

@@ -1,4 +1,4 @@
-use Rattle.gg_build.specs.Wires.{AreWires}
+use Rattle.gg_build.specs.inside.Wires.{AreWires}
 use Rattle.gg_build.proofs.wires.wires_at.Given as goal
 
 abbrev pub invariant-loop-number : goal.invariant-loop-number

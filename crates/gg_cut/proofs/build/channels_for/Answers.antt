@@ -2,7 +2,7 @@ use Rattle.std.proofs.Common.{List, refl, sym, ◌∙◌, subst, get_or}
 use Rattle.gg_cut_plan.specs.Channels.{capacity_of}
 use Rattle.gg_cut_plan.specs.Direct.{is_piped}
 use Rattle.gg_cut_plan.specs.declared.wires.Wire.{Wire}
-use Rattle.gg_cut.specs.Made.{AreChannels, IsFit}
+use Rattle.gg_cut.specs.inside.Made.{AreChannels, IsFit}
 use Rattle.gg_cut.proofs.PlanLemmas.{machine-fit, channels-made}
 use Rattle.gg_cut_machines.proofs.WireLemmas.{given-below, known-below}
 use Rattle.gg_cut.proofs.build.channels_for.Goals as goal

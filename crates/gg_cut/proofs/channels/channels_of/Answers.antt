@@ -12,7 +12,7 @@ use Rattle.gg_cut_plan.specs.Direct.{is_piped}
 use Rattle.gg_cut_plan.specs.Listed.{is_among}
 use Rattle.gg_cut_plan.specs.Plan.{wire_at}
 use Rattle.gg_cut_split.proofs.ClosedLemmas.FaultlessLemmas.{range-free}
-use Rattle.gg_cut.specs.Made.{AreWired, IsWired}
+use Rattle.gg_cut.specs.inside.Made.{AreWired, IsWired}
 use Rattle.gg_cut.proofs.FaultlessLemmas.{capacities-small}
 use Rattle.gg_cut_parts.proofs.MachineLemmas.{each-push}
 use Rattle.gg_cut.proofs.channels.channels_of.Goals as goal

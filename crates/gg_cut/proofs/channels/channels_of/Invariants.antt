@@ -4,7 +4,7 @@ use Rattle.gg_cut_plan.specs.declared.plan.Channel.{Channel}
 use Rattle.gg_cut_plan.specs.Channels.{capacity_of}
 use Rattle.gg_cut_plan.specs.Direct.{is_piped}
 use Rattle.gg_cut_plan.specs.Plan.{wire_at}
-use Rattle.gg_cut.specs.Made.{IsWired}
+use Rattle.gg_cut.specs.inside.Made.{IsWired}
 use Rattle.gg_cut.proofs.channels.channels_of.Given as goal
 
 abbrev pub invariant-loop-number : goal.invariant-loop-number

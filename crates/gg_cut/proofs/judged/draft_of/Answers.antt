@@ -8,7 +8,7 @@ use Rattle.gg_cut_plan.specs.declared.listed.Listed.{Listed}
 use Rattle.gg_cut_plan.specs.declared.wires.Wire.{Wire}
 use Rattle.gg_cut_plan.specs.Fault.{IsTold}
 use Rattle.gg_cut_plan.proofs.WholeFaultLemmas.{bridges-first, others-told}
-use Rattle.gg_cut_split.specs.closed.Apart.{AreApart}
+use Rattle.gg_cut_split.specs.inside.Apart.{AreApart}
 use Rattle.gg_cut.proofs.FaultlessLemmas.{entries-told}
 use Rattle.gg_cut.proofs.PlanLemmas.{bridges-at}
 use Rattle.gg_cut.proofs.judged.draft_of.Goals as goal

@@ -1,9 +1,9 @@
 use Rattle.std.proofs.Common.{◌<◌, sym, ◌∙◌, ap, subst, arith}
 use Rattle.gg_cut_plan.specs.declared.listed.Listed.{Listed}
 use Rattle.gg_cut_plan.specs.Hosts.{leader}
-use Rattle.gg_cut_plan.specs.Machines.{machine_count}
-use Rattle.gg_cut_split.specs.again.Again.{IsUnitAgain}
-use Rattle.gg_cut_parts.specs.Draft.{draft_hub}
+use Rattle.gg_cut_plan.specs.inside.Machines.{machine_count}
+use Rattle.gg_cut_split.specs.inside.Again.{IsUnitAgain}
+use Rattle.gg_cut_parts.specs.inside.Draft.{draft_hub}
 use Rattle.gg_cut.proofs.AlikeLemmas.{own-made}
 use Rattle.gg_cut_machines.proofs.HostLemmas.{leader-below}
 use Rattle.gg_cut_machines.proofs.LeaderLemmas.{leaders-first}

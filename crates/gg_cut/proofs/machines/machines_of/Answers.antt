@@ -1,9 +1,9 @@
 use Rattle.std.proofs.Common.{◌≡◌, List, sym, ◌∙◌, subst, arith}
 use Rattle.std.proofs.lemmas.List.{get_or_default}
 use Rattle.gg_cut_plan.specs.declared.plan.Machine.{Machine}
-use Rattle.gg_cut_plan.specs.Machines.{machine_count}
-use Rattle.gg_cut_parts.specs.Draft.{draft_hub}
-use Rattle.gg_cut.specs.Made.{AreMachinesTo, IsMadeBody}
+use Rattle.gg_cut_plan.specs.inside.Machines.{machine_count}
+use Rattle.gg_cut_parts.specs.inside.Draft.{draft_hub}
+use Rattle.gg_cut.specs.inside.Made.{AreMachinesTo, IsMadeBody}
 use Rattle.gg_cut.proofs.AlikeLemmas.{machines-none, machines-more, machines-made}
 use Rattle.gg_cut_parts.proofs.DraftLemmas.{draft-units}
 use Rattle.gg_cut.proofs.ShareLemmas.{share-at}

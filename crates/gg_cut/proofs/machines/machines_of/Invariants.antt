@@ -1,5 +1,5 @@
-use Rattle.gg_cut_parts.specs.Draft.{draft_hub}
-use Rattle.gg_cut.specs.Made.{AreMachinesTo}
+use Rattle.gg_cut_parts.specs.inside.Draft.{draft_hub}
+use Rattle.gg_cut.specs.inside.Made.{AreMachinesTo}
 use Rattle.gg_cut.proofs.machines.machines_of.Given as goal
 
 abbrev pub invariant-loop-number : goal.invariant-loop-number

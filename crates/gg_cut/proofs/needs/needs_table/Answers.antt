@@ -3,7 +3,7 @@ use Rattle.std.proofs.lemmas.Bool.{cases_lt}
 use Rattle.std.proofs.lemmas.List.{get_or_default}
 use Rattle.gg_cut_plan.specs.declared.plan.Machine.{Machine}
 use Rattle.gg_cut_plan.specs.Plan.{wire_at}
-use Rattle.gg_cut.specs.Made.{AreGiven}
+use Rattle.gg_cut.specs.inside.Made.{AreGiven}
 use Rattle.gg_cut.proofs.needs.needs_table.Goals as goal
 
 pub loop-number-preserved : goal.loop-number-preserved

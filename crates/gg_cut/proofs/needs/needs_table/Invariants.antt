@@ -2,7 +2,7 @@ use Rattle.std.proofs.Common.{◌≡◌, ℕ, ◌<◌, ◌≤◌, [], length}
 use Rattle.std.specs.Prelude.{slice_index_or}
 use Rattle.gg_cut_plan.specs.declared.plan.Machine.{Machine}
 use Rattle.gg_cut_plan.specs.Plan.{wire_at}
-use Rattle.gg_cut.specs.Made.{AreGiven}
+use Rattle.gg_cut.specs.inside.Made.{AreGiven}
 use Rattle.gg_cut.proofs.needs.needs_table.Given as goal
 
 abbrev pub invariant-loop-number : goal.invariant-loop-number

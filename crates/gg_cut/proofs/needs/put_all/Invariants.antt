@@ -1,6 +1,6 @@
 use Rattle.std.proofs.Common.{◌≡◌, ℕ, ◌≤◌, [], length}
 use Rattle.std.specs.Prelude.{slice_index_or}
-use Rattle.gg_cut.specs.Made.{ArePut}
+use Rattle.gg_cut.specs.inside.Made.{ArePut}
 use Rattle.gg_cut.proofs.needs.put_all.Given as goal
 
 abbrev pub invariant-loop-place : goal.invariant-loop-place

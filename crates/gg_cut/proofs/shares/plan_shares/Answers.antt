@@ -4,13 +4,13 @@ use Rattle.std.proofs.lemmas.List.{length_push}
 use Rattle.gg_flat.specs.Circuit.{FlatCircuit}
 use Rattle.gg_cut_plan.specs.declared.wires.Wire.{Wire}
 use Rattle.gg_cut_plan.specs.Direct.{routes}
-use Rattle.gg_cut_plan.specs.Machines.{machine_count}
+use Rattle.gg_cut_plan.specs.inside.Machines.{machine_count}
 use Rattle.gg_cut_plan.specs.Plan.{channels_to, channels_from}
 use Rattle.gg_cut_split.proofs.ClosedLemmas.FaultlessLemmas.{faultless-apart, faultless-few}
-use Rattle.gg_cut_parts.specs.Draft.{draft_hub}
+use Rattle.gg_cut_parts.specs.inside.Draft.{draft_hub}
 use Rattle.gg_cut_split.specs.declared.share.Share.{Share}
-use Rattle.gg_cut_split.specs.Spread.{AreLists}
-use Rattle.gg_cut_routes.specs.Share.{IsPlanShare, stays_by}
+use Rattle.gg_cut_split.specs.inside.Spread.{AreLists}
+use Rattle.gg_cut_routes.specs.inside.Share.{IsPlanShare, stays_by}
 use Rattle.gg_cut_parts.proofs.MachineLemmas.{each-push}
 use Rattle.gg_cut.proofs.ShareLemmas.{hub-known, plan-share-of}
 use Rattle.gg_cut.proofs.shares.plan_shares.Goals as goal

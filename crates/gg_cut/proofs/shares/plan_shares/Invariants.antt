@@ -1,8 +1,8 @@
 use Rattle.std.proofs.Common.{◌≡◌, ℕ, ◌<◌, length}
 use Rattle.std.specs.Prelude.{slice_index_or}
 use Rattle.gg_cut_split.specs.declared.share.Share.{Share}
-use Rattle.gg_cut_parts.specs.Draft.{draft_hub}
-use Rattle.gg_cut_routes.specs.Share.{IsPlanShare}
+use Rattle.gg_cut_parts.specs.inside.Draft.{draft_hub}
+use Rattle.gg_cut_routes.specs.inside.Share.{IsPlanShare}
 use Rattle.gg_cut.proofs.shares.plan_shares.Given as goal
 
 abbrev pub invariant-loop-number : goal.invariant-loop-number

@@ -1,6 +1,6 @@
 use Rattle.std.proofs.Common.{length, sym, ◌∙◌, ap, ap₂, arith}
 use Rattle.gg_cut_plan.specs.Hosts.{host_of, leader}
-use Rattle.gg_cut_plan.specs.Machines.{Counts}
+use Rattle.gg_cut_plan.specs.inside.Machines.{Counts}
 use Rattle.gg_cut_parts.proofs.DraftLemmas.{draft-units}
 use Rattle.gg_cut_machines.proofs.hosts.hosts_of.Goals as goal
 

@@ -1,7 +1,7 @@
 use Rattle.std.proofs.Common.{◌≡◌, ◌∙◌, ◌<◌, ◌≤◌, ◌-◌, get_or, length, codes, ◌++◌}
 use Rattle.std.proofs.lemmas.Result.{IfOk-weaker}
 use Rattle.gg_flat_tree.specs.Tree.{path_at}
-use Rattle.gg_cut_plan.specs.Plan.{cut_names}
+use Rattle.gg_cut_plan.specs.inside.Plan.{cut_names}
 use Rattle.gg_cut_parts.proofs.DraftLemmas.{draft-units}
 use Rattle.gg_cut_machines.proofs.NameLemmas.{memory-name, source-name, tray-name}
 use Rattle.gg_cut_machines.proofs.names.machine_name.Goals as goal

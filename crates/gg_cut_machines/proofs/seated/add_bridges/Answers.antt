@@ -6,7 +6,7 @@ use Rattle.gg_flat.specs.Line.{value_at}
 use Rattle.gg_cut_plan.specs.Models.{model_names}
 use Rattle.gg_partfile.specs.declared.request.BridgeEntry.{BridgeEntry}
 use Rattle.gg_cut_plan.specs.Seated.{first_bridge, machine_end}
-use Rattle.gg_cut_machines.specs.Seating.{draft_bridges}
+use Rattle.gg_cut_machines.specs.inside.Seating.{draft_bridges}
 use Rattle.gg_cut_machines.proofs.PlacedLemmas.{part-few}
 use Rattle.gg_cut_machines.proofs.SeatingLemmas.{bridge-more, seated-from, seated-into}
 use Rattle.gg_cut_machines.proofs.PortLemmas.{zeros}

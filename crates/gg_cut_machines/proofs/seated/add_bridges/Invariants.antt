@@ -1,7 +1,7 @@
 use Rattle.std.proofs.Common.{◌≡◌, ℕ, ◌+◌, length}
 use Rattle.gg_flat.specs.Line.{value_at}
 use Rattle.gg_cut_plan.specs.Seated.{first_bridge}
-use Rattle.gg_cut_machines.specs.Seating.{draft_bridges}
+use Rattle.gg_cut_machines.specs.inside.Seating.{draft_bridges}
 use Rattle.gg_cut_machines.proofs.SeatingLemmas.{AreSeatedBy}
 use Rattle.gg_cut_machines.proofs.seated.add_bridges.Given as goal
 

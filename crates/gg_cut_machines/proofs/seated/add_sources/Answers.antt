@@ -5,7 +5,7 @@ use Rattle.gg_cut_plan.specs.declared.plan.Machine.{Machine}
 use Rattle.gg_cut_plan.specs.Machines.{first_source}
 use Rattle.gg_cut_plan.specs.Seated.{first_kept_tray, undriven}
 use Rattle.gg_bits.specs.Lists.{count_below}
-use Rattle.gg_cut_machines.specs.Seating.{draft_bridges}
+use Rattle.gg_cut_machines.specs.inside.Seating.{draft_bridges}
 use Rattle.gg_cut_machines.proofs.PlacedLemmas.{counts-none, counts-on}
 use Rattle.gg_cut_machines.proofs.SeatingLemmas.{AreSeatedBy, source-less, source-more, source-room, seated-from, seated-into}
 use Rattle.gg_cut_machines.proofs.seated.add_sources.Goals as goal

@@ -1,7 +1,7 @@
 use Rattle.std.proofs.Common.{◌+◌}
 use Rattle.gg_cut_plan.specs.Seated.{undriven}
 use Rattle.gg_bits.specs.Lists.{count_below}
-use Rattle.gg_cut_machines.specs.Seating.{draft_bridges}
+use Rattle.gg_cut_machines.specs.inside.Seating.{draft_bridges}
 use Rattle.gg_cut_machines.proofs.SeatingLemmas.{AreSeatedBy}
 use Rattle.gg_cut_machines.proofs.seated.add_sources.Given as goal
 

@@ -4,7 +4,7 @@ use Rattle.gg_flat.specs.Line.{value_at}
 use Rattle.gg_cut_plan.specs.declared.plan.Machine.{Machine}
 use Rattle.gg_cut_plan.specs.Seated.{first_bridge, first_kept_tray, unseen}
 use Rattle.gg_bits.specs.Lists.{count_below}
-use Rattle.gg_cut_machines.specs.Seating.{draft_bridges}
+use Rattle.gg_cut_machines.specs.inside.Seating.{draft_bridges}
 use Rattle.gg_cut_machines.proofs.PlacedLemmas.{counts-none, counts-on}
 use Rattle.gg_cut_machines.proofs.SeatingLemmas.{AreSeatedBy, tray-less, tray-more, tray-room, seated-from, seated-into}
 use Rattle.gg_cut_machines.proofs.seated.add_trays.Goals as goal

@@ -6,7 +6,7 @@ use Rattle.gg_cut_plan.specs.Direct.{plan_routes}
 use Rattle.gg_cut_plan.specs.Listed.{listed_of}
 use Rattle.gg_cut_plan.specs.Seated.{machine_end, seated_wire}
 use Rattle.gg_cut_split.proofs.ClosedLemmas.FaultlessLemmas.{faultless-few}
-use Rattle.gg_cut_machines.specs.Seating.{draft_bridges}
+use Rattle.gg_cut_machines.specs.inside.Seating.{draft_bridges}
 use Rattle.gg_cut_machines.proofs.WireLemmas.{seated-ends}
 use Rattle.gg_cut_parts.proofs.DraftLemmas.{units-count}
 use Rattle.gg_cut_machines.proofs.SeatingLemmas.{sides-made}

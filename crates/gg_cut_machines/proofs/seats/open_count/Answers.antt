@@ -1,6 +1,6 @@
 use Rattle.std.proofs.Common.{◌≡◌, ◌+◌, ap, ◌∙◌, arith}
 use Rattle.gg_bits.specs.Lists.{count_below}
-use Rattle.gg_cut_machines.specs.Seats.{is_open}
+use Rattle.gg_cut_machines.specs.inside.Seats.{is_open}
 use Rattle.gg_cut_machines.proofs.SeatLemmas.{count-next}
 use Rattle.gg_cut_machines.proofs.seats.open_count.Goals as goal
 

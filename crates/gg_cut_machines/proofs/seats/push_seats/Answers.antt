@@ -1,7 +1,7 @@
 use Rattle.std.proofs.Common.{◌≡◌, ◌+◌, ◌-◌, ◌<◌, ◌==◌, length, ap, ◌∙◌}
 use Rattle.std.specs.Prelude.{if◌then◌else◌}
 use Rattle.gg_flat.specs.Line.{value_at}
-use Rattle.gg_cut_machines.specs.Seats.{seat_by}
+use Rattle.gg_cut_machines.specs.inside.Seats.{seat_by}
 use Rattle.gg_cut_machines.proofs.SeatLemmas.{count-next, push-more}
 use Rattle.gg_cut_machines.proofs.seats.push_seats.Goals as goal
 

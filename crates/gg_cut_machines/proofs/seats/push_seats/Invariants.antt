@@ -1,7 +1,7 @@
 use Rattle.std.proofs.Common.{◌≡◌, ◌+◌, ◌++◌, map}
 use Rattle.std.specs.List.{range_with_len}
 use Rattle.gg_bits.specs.Lists.{count_below}
-use Rattle.gg_cut_machines.specs.Seats.{is_open, seat_by}
+use Rattle.gg_cut_machines.specs.inside.Seats.{is_open, seat_by}
 use Rattle.gg_cut_machines.proofs.seats.push_seats.Given as goal
 
 abbrev pub invariant-loop-place : goal.invariant-loop-place

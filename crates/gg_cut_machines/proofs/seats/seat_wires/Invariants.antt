@@ -1,5 +1,5 @@
 use Rattle.std.proofs.Common.{◌≡◌, map, take}
-use Rattle.gg_cut_machines.specs.Seats.{wire_by}
+use Rattle.gg_cut_machines.specs.inside.Seats.{wire_by}
 use Rattle.gg_cut_machines.proofs.seats.seat_wires.Given as goal
 
 abbrev pub invariant-loop-wire : goal.invariant-loop-wire

@@ -1,5 +1,5 @@
 use Rattle.std.proofs.Common.{sym, subst}
-use Rattle.gg_flat_tree.specs.Clocked.{AreParentsBefore}
+use Rattle.gg_flat_tree.specs.inside.Clocked.{AreParentsBefore}
 use Rattle.gg_cut_plan.proofs.KnownLemmas.{parents-before}
 use Rattle.gg_cut_parts.proofs.domains.domains_of.Goals as goal
 

@@ -2,14 +2,15 @@ use Rattle.std.proofs.Common.{◌≡◌, ◌<◌, ◌≤◌, ℕ, List, [], Bool
 use Rattle.gg_flat.specs.declared.piece.Driver.TheVariants.{Held}
 use Rattle.gg_flat_tree.specs.declared.tree.MemoryInstance.{MemoryInstance}
 use Rattle.gg_flat.specs.Circuit.{FlatCircuit, driver_at}
-use Rattle.gg_flat_tree.specs.Clocked.{AreParentsBefore, clock_at}
+use Rattle.gg_flat_tree.specs.inside.Clocked.{AreParentsBefore}
+use Rattle.gg_flat_tree.specs.Clocked.{clock_at}
 use Rattle.gg_flat.specs.Line.{value_at}
 use Rattle.gg_flat_tree.specs.Tree.{InstanceTree, instance_at}
-use Rattle.gg_part.specs.Domains.{FollowsInside, inner_clocks}
+use Rattle.gg_part.specs.inside.Domains.{FollowsInside, inner_clocks}
 use Rattle.gg_order.specs.Marks.{is_marked}
-use Rattle.gg_cut_plan.specs.Listed.{AreMarks}
+use Rattle.gg_cut_plan.specs.inside.Listed.{AreMarks}
 use Rattle.gg_cut_plan.proofs.KnownLemmas.{parents-before}
-use Rattle.gg_cut_parts.specs.Innermost.{IsLast, IsTimedBy}
+use Rattle.gg_cut_parts.specs.inside.Innermost.{IsLast, IsTimedBy}
 use Rattle.gg_cut_parts.proofs.FollowLemmas.{follows-inside, ports-follow}
 use Rattle.gg_cut_parts.proofs.domains.unit_clocking.Goals as goal
 

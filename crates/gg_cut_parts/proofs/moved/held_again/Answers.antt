@@ -2,7 +2,7 @@ use Rattle.std.proofs.Common.{◌≡◌, ◌<◌, length, map, get_or, ◌∙◌
 use Rattle.std.proofs.lemmas.List.{length-replicate, get_or_default}
 use Rattle.std.proofs.lemmas.Result.{IfOk-weaker}
 use Rattle.gg_flat.specs.Line.{value_at}
-use Rattle.gg_cut_parts.specs.MovedPart.{HasAgain}
+use Rattle.gg_cut_parts.specs.inside.MovedPart.{HasAgain}
 use Rattle.gg_cut_parts.proofs.RegisterLemmas.{again-none, held-again}
 use Rattle.gg_cut_parts.proofs.moved.held_again.Goals as goal
 

@@ -1,5 +1,5 @@
 use Rattle.std.proofs.Common.{◌≡◌, ℕ, length}
-use Rattle.gg_cut_parts.specs.MovedPart.{HoldAgain, HasAgain}
+use Rattle.gg_cut_parts.specs.inside.MovedPart.{HoldAgain, HasAgain}
 use Rattle.gg_cut_parts.proofs.moved.held_again.Given as goal
 
 abbrev pub invariant-loop-place : goal.invariant-loop-place

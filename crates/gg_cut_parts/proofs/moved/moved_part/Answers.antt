@@ -6,8 +6,8 @@ use Rattle.gg_cut_plan.specs.declared.wires.Wire.{Wire}
 use Rattle.gg_cut_plan.specs.Direct.{routes}
 use Rattle.gg_cut_plan.specs.Plan.{channels_from, clock_home, givens_of, machine_clocks}
 use Rattle.gg_cut_parts.proofs.DomainTimes.{home-known}
-use Rattle.gg_cut_split.specs.again.Again.{again_at}
-use Rattle.gg_cut_parts.specs.Draft.{draft_hub}
+use Rattle.gg_cut_split.specs.inside.Again.{again_at}
+use Rattle.gg_cut_parts.specs.inside.Draft.{draft_hub}
 use Rattle.gg_cut_parts.proofs.MachineLemmas.{from-below}
 use Rattle.gg_cut_parts.proofs.DraftFollowerLemmas.{ready, follows, all-behind, all-few, held-is, part-in, globals-within}
 use Rattle.gg_cut_parts.proofs.moved.moved_part.Goals as goal

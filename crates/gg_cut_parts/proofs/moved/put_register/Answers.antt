@@ -1,6 +1,6 @@
 use Rattle.std.proofs.Common.{◌<◌, ◌+◌, length, set, sym, subst, arith}
 use Rattle.gg_flat.specs.Line.{value_at}
-use Rattle.gg_cut_parts.specs.MovedPart.{HasAgain}
+use Rattle.gg_cut_parts.specs.inside.MovedPart.{HasAgain}
 use Rattle.gg_cut_parts.proofs.RegisterLemmas.{again-put, again-left, register-listed}
 use Rattle.gg_cut_parts.proofs.moved.put_register.Goals as goal
 

@@ -3,14 +3,14 @@ use Rattle.std.specs.Prelude.{AllPairs}
 use Rattle.gg_flat.specs.Circuit.{FlatCircuit}
 use Rattle.gg_part.specs.declared.part.Clocking.{Clocking}
 use Rattle.gg_part.specs.Building.{AreHeld}
-use Rattle.gg_part.specs.Clocking.{AreTimed, IsTimed}
+use Rattle.gg_part.specs.inside.Clocking.{AreTimed, IsTimed}
 use Rattle.gg_cut_plan.specs.declared.wires.Wire.{Wire}
 use Rattle.gg_cut_plan.specs.Direct.{routes}
 use Rattle.gg_cut_plan.specs.Machines.{first_memory, first_unit}
 use Rattle.gg_cut_plan.specs.Plan.{channels_to, channels_from, clock_home, givens_of, machine_clocks, signals_of}
 use Rattle.gg_cut_parts.proofs.DomainTimes.{home-known}
-use Rattle.gg_cut_parts.specs.Draft.{draft_hub}
-use Rattle.gg_cut_parts.specs.MovedPart.{IsUnitRouted}
+use Rattle.gg_cut_parts.specs.inside.Draft.{draft_hub}
+use Rattle.gg_cut_parts.specs.inside.MovedPart.{IsUnitRouted}
 use Rattle.gg_cut_parts.proofs.DraftLemmas.{draft-routed}
 use Rattle.gg_cut_parts.proofs.MachineLemmas.{to-below, from-below, cut-part}
 use Rattle.gg_cut_parts.proofs.TimedLemmas.{share-timed}

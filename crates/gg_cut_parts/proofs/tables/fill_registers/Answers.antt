@@ -5,7 +5,7 @@ use Rattle.gg_flat.specs.declared.piece.Signal.{Signal}
 use Rattle.gg_flat.specs.Circuit.{driver_at}
 use Rattle.gg_flat_tree.specs.Clocked.{clock_at}
 use Rattle.gg_flat.specs.Line.{value_at}
-use Rattle.gg_cut_parts.specs.Innermost.{IsTimedBy}
+use Rattle.gg_cut_parts.specs.inside.Innermost.{IsTimedBy}
 use Rattle.gg_cut_parts.proofs.TableLemmas.{held-known, timed-more, timed-passed}
 use Rattle.gg_cut_parts.proofs.tables.fill_registers.Goals as goal
 use Rattle.gg_cut_parts.proofs.tables.fill_registers.Goals.{in-Some, in_default}

@@ -1,7 +1,7 @@
 use Rattle.std.proofs.Common.{◌≡◌, ℕ, ◌<◌, length}
 use Rattle.gg_flat.specs.declared.piece.Driver.TheVariants.{Held}
 use Rattle.gg_flat.specs.Circuit.{driver_at}
-use Rattle.gg_cut_parts.specs.Innermost.{IsTimedBy}
+use Rattle.gg_cut_parts.specs.inside.Innermost.{IsTimedBy}
 use Rattle.gg_cut_parts.proofs.tables.fill_registers.Given as goal
 
 abbrev pub invariant-loop-signal : goal.invariant-loop-signal

@@ -1,5 +1,5 @@
 use Rattle.std.proofs.Common.{◌≡◌, ℕ, ◌<◌, [], false, length, slice_index_or}
-use Rattle.gg_part.specs.Domains.{inner_clocks}
+use Rattle.gg_part.specs.inside.Domains.{inner_clocks}
 use Rattle.gg_cut_parts.proofs.tables.inner_table.Given as goal
 
 abbrev pub invariant-loop-place : goal.invariant-loop-place

@@ -1,4 +1,4 @@
-use Rattle.gg_cut_pipes.specs.Tables.{IsFilled}
+use Rattle.gg_cut_pipes.specs.inside.Tables.{IsFilled}
 use Rattle.gg_cut_pipes.proofs.fill.fill.Given as goal
 
 abbrev pub invariant-loop-place : goal.invariant-loop-place

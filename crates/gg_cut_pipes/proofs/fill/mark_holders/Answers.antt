@@ -2,7 +2,7 @@ use Rattle.std.proofs.Common.{◌≡◌, ◌<◌, ◌∙◌, List, length, get_o
 use Rattle.std.proofs.lemmas.List.{get_or-map}
 use Rattle.gg_flat.specs.declared.piece.Signal.{Signal}
 use Rattle.gg_flat.specs.Circuit.{driver_at}
-use Rattle.gg_cut_pipes.specs.Tables.{held_by}
+use Rattle.gg_cut_pipes.specs.inside.Tables.{held_by}
 use Rattle.gg_cut_pipes.proofs.TableLemmas.{holding-none, holding-more}
 use Rattle.gg_cut_pipes.proofs.fill.mark_holders.Goals as goal
 

@@ -1,4 +1,4 @@
-use Rattle.gg_cut_pipes.specs.Tables.{AreHolding}
+use Rattle.gg_cut_pipes.specs.inside.Tables.{AreHolding}
 use Rattle.gg_cut_pipes.proofs.fill.mark_holders.Given as goal
 
 abbrev pub invariant-loop-place : goal.invariant-loop-place

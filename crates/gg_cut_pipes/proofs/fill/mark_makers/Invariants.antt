@@ -1,5 +1,5 @@
 use Rattle.std.proofs.Common.{map}
-use Rattle.gg_cut_pipes.specs.Tables.{IsFilled}
+use Rattle.gg_cut_pipes.specs.inside.Tables.{IsFilled}
 use Rattle.gg_cut_pipes.proofs.fill.mark_makers.Given as goal
 
 abbrev pub invariant-loop-place : goal.invariant-loop-place

@@ -1,6 +1,6 @@
 use Rattle.std.proofs.Common.{◌<◌, length, sym, ◌∙◌, ap, subst}
 use Rattle.std.specs.Prelude.{All}
-use Rattle.gg_cut_plan.specs.Listed.{AreMarks}
+use Rattle.gg_cut_plan.specs.inside.Listed.{AreMarks}
 use Rattle.gg_cut_pipes.proofs.TableLemmas.{pipes-found}
 use Rattle.gg_cut_pipes.proofs.fill.pipes_in.Goals as goal
 

@@ -3,7 +3,7 @@ use Rattle.std.specs.Prelude.{filter, All, AllPairs}
 use Rattle.std.proofs.lemmas.List.{length-map}
 use Rattle.std.proofs.lemmas.List.FromFn.{length-range_with_len}
 use Rattle.gg_cut_plan.specs.declared.plan.Channel.{Channel}
-use Rattle.gg_cut_pipes.specs.Tables.{piped_places}
+use Rattle.gg_cut_pipes.specs.inside.Tables.{piped_places}
 use Rattle.gg_cut_pipes.proofs.TableLemmas.{tables-made}
 use Rattle.gg_cut_pipes.proofs.fill.tables_of.Goals as goal
 

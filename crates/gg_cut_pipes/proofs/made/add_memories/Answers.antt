@@ -3,7 +3,7 @@ use Rattle.std.proofs.Common.{refl, ◌≡◌, ◌<◌, ◌+◌, ℕ, List, leng
 use Rattle.gg_flat.specs.declared.memory.Memory.{Memory}
 use Rattle.gg_flat.specs.Line.{value_at}
 use Rattle.gg_bits.specs.Lists.{by_number}
-use Rattle.gg_cut_pipes.specs.Tables.{seen_in}
+use Rattle.gg_cut_pipes.specs.inside.Tables.{seen_in}
 use Rattle.gg_cut_pipes.proofs.BuildLemmas.{number-more, memories-grow}
 use Rattle.gg_flat.specs.Renaming.{renamed_memory, signals_by}
 use Rattle.gg_cut_pipes.proofs.made.add_memories.Goals as goal

@@ -1,5 +1,5 @@
 use Rattle.std.proofs.Common.{◌≡◌, ◌++◌, map, take}
-use Rattle.gg_cut_pipes.specs.Tables.{kept_in}
+use Rattle.gg_cut_pipes.specs.inside.Tables.{kept_in}
 use Rattle.gg_cut_pipes.proofs.made.add_outs.Given as goal
 
 abbrev pub invariant-loop-signal : goal.invariant-loop-signal

@@ -1,7 +1,7 @@
 use Rattle.std.proofs.Common.{◌≡◌, ◌++◌, take}
 use Rattle.gg_flat.specs.Line.{value_at}
 use Rattle.gg_bits.specs.Lists.{by_number}
-use Rattle.gg_cut_pipes.specs.Tables.{seen_in}
+use Rattle.gg_cut_pipes.specs.inside.Tables.{seen_in}
 use Rattle.gg_flat.specs.Renaming.{renamed_register, signals_by}
 use Rattle.gg_cut_pipes.proofs.made.add_registers.Given as goal
 

@@ -6,7 +6,7 @@ use Rattle.gg_flat_tree.specs.Tree.{path_at}
 use Rattle.gg_flat.proofs.ListLemmas.{some-item}
 use Rattle.gg_cut_reference.specs.Made.{seen_signal}
 use Rattle.gg_bits.specs.Lists.{by_number}
-use Rattle.gg_cut_pipes.specs.Tables.{views_by}
+use Rattle.gg_cut_pipes.specs.inside.Tables.{views_by}
 use Rattle.gg_cut_reference.proofs.MadeLemmas.{length-by}
 use Rattle.gg_cut_pipes.proofs.BuildLemmas.{number-more, fresh-at, signals-grow}
 use Rattle.gg_cut_pipes.proofs.made.add_signals.Goals as goal

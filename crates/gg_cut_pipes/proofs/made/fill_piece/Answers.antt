@@ -5,7 +5,7 @@ use Rattle.gg_flat_tree.specs.Tree.{path_at}
 use Rattle.gg_flat.specs.Line.{value_at}
 use Rattle.gg_cut_reference.specs.Made.{seen_signal, pipe_signals, pipe_registers}
 use Rattle.gg_bits.specs.Lists.{by_number}
-use Rattle.gg_cut_pipes.specs.Tables.{seen_in, kept_in, views_by}
+use Rattle.gg_cut_pipes.specs.inside.Tables.{seen_in, kept_in, views_by}
 use Rattle.gg_cut_reference.proofs.MadeLemmas.{length-by}
 use Rattle.gg_flat.specs.Renaming.{renamed_memory, renamed_register, signals_by}
 use Rattle.gg_cut_pipes.proofs.made.fill_piece.Goals as goal

@@ -5,7 +5,7 @@ use Rattle.gg_flat_tree.specs.Tree.{path_at}
 use Rattle.gg_order.specs.Design.{IsDesign}
 use Rattle.gg_cut_plan.specs.declared.plan.Channel.{Channel}
 use Rattle.gg_cut_reference.specs.Made.{reference_of}
-use Rattle.gg_cut_pipes.specs.Tables.{AreOwned, AreTables, CanFill, views_by, piped_signals}
+use Rattle.gg_cut_pipes.specs.inside.Tables.{AreOwned, AreTables, CanFill, views_by, piped_signals}
 use Rattle.gg_cut_pipes.proofs.FewLemmas.{few-states}
 use Rattle.gg_cut_pipes.proofs.PipingLemmas.{plan-apart, known-pipes, few-pipes, distinct-paths, can-fill, reference-is}
 use Rattle.gg_cut_pipes.proofs.piping.circuit_of.Goals as goal

@@ -9,7 +9,7 @@ use Rattle.gg_cut_plan.specs.declared.plan.Channel.{Channel}
 use Rattle.gg_cut_plan.specs.Direct.{plan_hub}
 use Rattle.gg_cut_reference.specs.Links.{pipes_of}
 use Rattle.gg_cut_reference.specs.Made.{plan_reference}
-use Rattle.gg_cut_pipes.specs.Tables.{piped_places, piped_signals}
+use Rattle.gg_cut_pipes.specs.inside.Tables.{piped_places, piped_signals}
 use Rattle.gg_cut_reference.proofs.PlanLemmas.{plan-formed, plan-ordered}
 use Rattle.gg_cut_pipes.proofs.PipingLemmas.{few-pipes, known-places, pipes-are}
 use Rattle.gg_cut_pipes.proofs.piping.pipe.Goals as goal

@@ -1,6 +1,6 @@
 use Rattle.std.proofs.Common.{◌+◌, ◌∙◌, set, sym, subst, ap, arith}
 use Rattle.gg_flat.specs.Line.{value_at}
-use Rattle.gg_cut_plan.specs.Owners.{earlier}
+use Rattle.gg_cut_plan.specs.inside.Owners.{earlier}
 use Rattle.gg_cut_plan.proofs.OwnerLemmas.{OwnersSoFar, OwnersSoFar-more}
 use Rattle.gg_cut_plan.proofs.owners.fill_owners.Goals as goal
 

@@ -2,7 +2,7 @@ use Rattle.std.proofs.Common.{◌≡◌, ◌<◌, List, length, true, false, sym
 use Rattle.std.specs.Prelude.{slice_index_or}
 use Rattle.gg_flat.specs.Circuit.{driver_at}
 use Rattle.gg_flat.specs.declared.piece.Signal.{Signal}
-use Rattle.gg_order.specs.Marks.{driver_of}
+use Rattle.gg_order.specs.inside.Marks.{driver_of}
 use Rattle.gg_order.proofs.MarkLemmas.{driver_of-at}
 use Rattle.gg_cut_plan.specs.Direct.{is_input}
 use Rattle.gg_cut_plan.proofs.PathLemmas.{holds-path}

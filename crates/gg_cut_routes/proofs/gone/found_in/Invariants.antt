@@ -1,7 +1,7 @@
 use Rattle.std.proofs.Common.{◌≡◌, take}
 use Rattle.std.specs.Prelude.{flat_map}
 use Rattle.std.specs.Option.{option_to_list}
-use Rattle.gg_cut_routes.specs.Tables.{entry_at}
+use Rattle.gg_cut_routes.specs.inside.Tables.{entry_at}
 use Rattle.gg_cut_routes.proofs.gone.found_in.Given as goal
 
 abbrev pub invariant-loop-signal : goal.invariant-loop-signal

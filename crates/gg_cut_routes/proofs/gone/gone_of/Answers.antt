@@ -7,7 +7,7 @@ use Rattle.gg_flat.specs.Circuit.{driver_at}
 use Rattle.gg_flat_tree.specs.Scoped.{memory_fields}
 use Rattle.gg_flat.proofs.ListLemmas.{filter-cases}
 use Rattle.gg_cut_plan.specs.Direct.{driver_names}
-use Rattle.gg_cut_routes.specs.Tables.{side_at, entry_at, AreKnown, is_kept, is_left}
+use Rattle.gg_cut_routes.specs.inside.Tables.{side_at, entry_at, AreKnown, is_kept, is_left}
 use Rattle.gg_cut_routes.proofs.FoundTables.{found-known, names-all}
 use Rattle.gg_cut_routes.proofs.gone.gone_of.Goals as goal
 

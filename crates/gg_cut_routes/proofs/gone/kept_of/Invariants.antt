@@ -1,6 +1,6 @@
 use Rattle.std.proofs.Common.{◌≡◌, take}
 use Rattle.std.specs.Prelude.{filter}
-use Rattle.gg_cut_routes.specs.Tables.{side_at, entry_at, is_kept}
+use Rattle.gg_cut_routes.specs.inside.Tables.{side_at, entry_at, is_kept}
 use Rattle.gg_cut_routes.proofs.gone.kept_of.Given as goal
 
 abbrev pub invariant-loop-signal : goal.invariant-loop-signal

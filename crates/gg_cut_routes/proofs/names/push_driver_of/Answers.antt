@@ -3,7 +3,7 @@ use Rattle.std.specs.Prelude.{slice_index_or}
 use Rattle.gg_flat.specs.Circuit.{driver_at}
 use Rattle.gg_flat.specs.declared.piece.Signal.{Signal}
 use Rattle.gg_flat.specs.WellFormed.{MayDrive}
-use Rattle.gg_order.specs.Marks.{driver_of}
+use Rattle.gg_order.specs.inside.Marks.{driver_of}
 use Rattle.gg_order.proofs.MarkLemmas.{driver_of-at}
 use Rattle.gg_cut_routes.proofs.names.push_driver_of.Goals as goal
 

@@ -1,5 +1,5 @@
 use Rattle.std.proofs.Common.{◌≡◌, ℕ, length, None}
-use Rattle.gg_cut_routes.specs.Tables.{entry_at}
+use Rattle.gg_cut_routes.specs.inside.Tables.{entry_at}
 use Rattle.gg_cut_routes.proofs.origins.nones.Given as goal
 
 abbrev pub invariant-loop : goal.invariant-loop

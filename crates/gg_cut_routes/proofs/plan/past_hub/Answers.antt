@@ -2,7 +2,7 @@ use Rattle.std.proofs.Common.{◌++◌, [], ◌∷◌, ◌∙◌, sym, ap₂}
 use Rattle.std.specs.Prelude.{if◌then◌else◌}
 use Rattle.gg_cut_plan.specs.Channels.{wire}
 use Rattle.gg_cut_plan.specs.Plan.{wire_at}
-use Rattle.gg_cut_routes.specs.Share.{is_past_hub}
+use Rattle.gg_cut_routes.specs.inside.Share.{is_past_hub}
 use Rattle.gg_cut_routes.proofs.ListTables.{map-filter-next}
 use Rattle.gg_cut_routes.proofs.plan.past_hub.Goals as goal
 

@@ -1,6 +1,6 @@
 use Rattle.std.proofs.Common.{◌≡◌, take, map}
 use Rattle.std.specs.Prelude.{filter}
-use Rattle.gg_cut_routes.specs.Share.{is_past_hub}
+use Rattle.gg_cut_routes.specs.inside.Share.{is_past_hub}
 use Rattle.gg_cut_routes.proofs.plan.past_hub.Given as goal
 
 abbrev pub invariant-loop-place : goal.invariant-loop-place

@@ -3,7 +3,7 @@ use Rattle.gg_flat.specs.Circuit.{FlatCircuit}
 use Rattle.gg_order.specs.Design.{IsDesign}
 use Rattle.gg_cut_plan.specs.declared.listed.Listed.{Listed}
 use Rattle.gg_cut_plan.specs.Direct.{hub_of, is_piped, is_driven}
-use Rattle.gg_cut_routes.specs.Routes.{AreRoutes}
+use Rattle.gg_cut_routes.specs.inside.Routes.{AreRoutes}
 use Rattle.gg_cut_routes.proofs.BarredTables.{marked-as, planned-wires, planned-gone}
 use Rattle.gg_cut_routes.proofs.plan.plan_routes.Goals as goal
 

@@ -5,7 +5,7 @@ use Rattle.std.proofs.lemmas.List.Elements.{All-filter, All-map}
 use Rattle.gg_flat.specs.Line.{value_at}
 use Rattle.gg_order.specs.Marks.{is_marked}
 use Rattle.gg_cut_plan.specs.declared.wires.Wire.{Wire}
-use Rattle.gg_cut_routes.specs.Share.{is_past_hub, stays_by}
+use Rattle.gg_cut_routes.specs.inside.Share.{is_past_hub, stays_by}
 use Rattle.gg_cut_routes.proofs.ListTables.{filter-next}
 use Rattle.gg_cut_routes.proofs.plan.staying.Goals as goal
 

@@ -1,6 +1,6 @@
 use Rattle.std.proofs.Common.{◌≡◌, take}
 use Rattle.std.specs.Prelude.{filter}
-use Rattle.gg_cut_routes.specs.Share.{stays_by}
+use Rattle.gg_cut_routes.specs.inside.Share.{stays_by}
 use Rattle.gg_cut_routes.proofs.plan.staying.Given as goal
 
 abbrev pub invariant-loop-signal : goal.invariant-loop-signal

@@ -3,7 +3,7 @@ use Rattle.std.specs.Prelude.{if◌then◌else◌}
 use Rattle.gg_order.specs.Marks.{is_marked}
 use Rattle.gg_cut_plan.specs.Channels.{wire}
 use Rattle.gg_cut_plan.specs.Plan.{wire_at}
-use Rattle.gg_cut_routes.specs.Tables.{entry_at, routed_by}
+use Rattle.gg_cut_routes.specs.inside.Tables.{entry_at, routed_by}
 use Rattle.gg_cut_routes.proofs.FoundTables.{if-some}
 use Rattle.gg_cut_routes.proofs.ListTables.{map-filter-next}
 use Rattle.gg_cut_routes.proofs.routed.routed_of.Goals as goal

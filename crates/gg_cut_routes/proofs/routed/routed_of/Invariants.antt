@@ -1,7 +1,7 @@
 use Rattle.std.proofs.Common.{◌≡◌, take, map, not}
 use Rattle.std.specs.Prelude.{filter}
 use Rattle.gg_order.specs.Marks.{is_marked}
-use Rattle.gg_cut_routes.specs.Tables.{entry_at, routed_by}
+use Rattle.gg_cut_routes.specs.inside.Tables.{entry_at, routed_by}
 use Rattle.gg_cut_routes.proofs.routed.routed_of.Given as goal
 
 abbrev pub invariant-loop-place : goal.invariant-loop-place

@@ -7,8 +7,8 @@ use Rattle.gg_order.specs.Marks.{is_marked}
 use Rattle.gg_cut_plan.specs.declared.wires.Wire.{Wire}
 use Rattle.gg_cut_routes.specs.declared.sides.Side.{Side}
 use Rattle.gg_cut_plan.specs.Direct.{hub_of}
-use Rattle.gg_cut_routes.specs.Tables.{side_at, entry_at, is_makers, IsSeen, direct_by, AreEntries, AreGone, routed_by}
-use Rattle.gg_cut_routes.specs.Routable.{IsRouting}
+use Rattle.gg_cut_routes.specs.inside.Tables.{side_at, entry_at, is_makers, IsSeen, direct_by, AreEntries, AreGone, routed_by}
+use Rattle.gg_cut_routes.specs.inside.Routable.{IsRouting}
 use Rattle.gg_cut_routes.proofs.GoneTables.{names_by}
 use Rattle.gg_cut_routes.proofs.CutTables.{known-wires, mine-known, mine-named, names-known, fields-known, seen, routing-is}
 use Rattle.gg_cut_routes.proofs.routing.routes_of.Goals as goal

@@ -1,7 +1,7 @@
 use Rattle.std.proofs.Common.{◌++◌, [], ◌∷◌, ◌∙◌, sym, ap₂}
 use Rattle.std.specs.Prelude.{if◌then◌else◌}
 use Rattle.gg_flat.specs.Line.{value_at}
-use Rattle.gg_cut_routes.specs.Tables.{side_at, is_makers}
+use Rattle.gg_cut_routes.specs.inside.Tables.{side_at, is_makers}
 use Rattle.gg_cut_routes.proofs.ListTables.{filter-next}
 use Rattle.gg_cut_routes.proofs.sides.made_of.Goals as goal
 

@@ -1,6 +1,6 @@
 use Rattle.std.proofs.Common.{◌≡◌, take}
 use Rattle.std.specs.Prelude.{filter}
-use Rattle.gg_cut_routes.specs.Tables.{side_at, is_makers}
+use Rattle.gg_cut_routes.specs.inside.Tables.{side_at, is_makers}
 use Rattle.gg_cut_routes.proofs.sides.made_of.Given as goal
 
 abbrev pub invariant-loop-signal : goal.invariant-loop-signal

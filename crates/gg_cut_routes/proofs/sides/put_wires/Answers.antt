@@ -3,7 +3,7 @@ use Rattle.std.proofs.lemmas.List.{get_or_default}
 use Rattle.gg_cut_plan.specs.Channels.{wire}
 use Rattle.gg_cut_plan.specs.Plan.{wire_at}
 use Rattle.gg_cut_routes.specs.declared.sides.Side.TheVariants.{Other}
-use Rattle.gg_cut_routes.specs.Tables.{side_by}
+use Rattle.gg_cut_routes.specs.inside.Tables.{side_by}
 use Rattle.gg_cut_routes.proofs.SideTables.{SidesTo, SidesTo-none, SidesTo-more, SidesTo-end}
 use Rattle.gg_cut_routes.proofs.sides.put_wires.Goals as goal
 

@@ -1,7 +1,7 @@
 use Rattle.std.proofs.Common.{◌+◌, set, length, sym, subst, ◌∙◌, arith}
 use Rattle.gg_cut_plan.specs.Channels.{wire}
 use Rattle.gg_cut_plan.specs.Plan.{wire_at}
-use Rattle.gg_cut_routes.specs.Tables.{direct_by}
+use Rattle.gg_cut_routes.specs.inside.Tables.{direct_by}
 use Rattle.gg_cut_routes.proofs.StraightTables.{EntriesTo, EntriesTo-none, EntriesTo-more, EntriesTo-end, direct-known}
 use Rattle.gg_cut_routes.proofs.straight.straight_of.Goals as goal
 

@@ -1,5 +1,5 @@
 use Rattle.std.proofs.Common.{length}
-use Rattle.gg_cut_routes.specs.Tables.{direct_by}
+use Rattle.gg_cut_routes.specs.inside.Tables.{direct_by}
 use Rattle.gg_cut_routes.proofs.StraightTables.{EntriesTo}
 use Rattle.gg_cut_routes.proofs.straight.straight_of.Given as goal
 

@@ -1,4 +1,4 @@
-use Rattle.gg_cut_plan.specs.Named.{AreNamed}
+use Rattle.gg_cut_plan.specs.inside.Named.{AreNamed}
 use Rattle.gg_cut_rules.proofs.clocks.add_all_named.Given as goal
 
 abbrev pub invariant-loop-pair : goal.invariant-loop-pair

@@ -2,7 +2,7 @@ use Rattle.std.proofs.Common.{rules, ◌≡◌, ℕ, ◌+◌, List, ◌++◌, �
 use Rattle.std.specs.Prelude.{Contains}
 use Rattle.std.proofs.lemmas.Option.{same_Some, slice_get-get_or}
 use Rattle.gg_flat.specs.Clock.{Ratio}
-use Rattle.gg_cut_plan.specs.Named.{AreNamed}
+use Rattle.gg_cut_plan.specs.inside.Named.{AreNamed}
 use Rattle.gg_cut_rules.proofs.NamedLemmas.{named-again, named-more}
 use Rattle.gg_cut_rules.proofs.clocks.add_named.Goals as goal
 

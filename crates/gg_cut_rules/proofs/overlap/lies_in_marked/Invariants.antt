@@ -1,6 +1,7 @@
 use Rattle.std.proofs.Common.{◌≡◌, ◌<◌, ℕ, List, length}
 use Rattle.std.specs.List.{list_any}
-use Rattle.gg_cut_plan.specs.Listed.{AreMarks, lies}
+use Rattle.gg_cut_plan.specs.inside.Listed.{AreMarks}
+use Rattle.gg_cut_plan.specs.Listed.{lies}
 use Rattle.gg_cut_rules.proofs.overlap.lies_in_marked.Given as goal
 
 abbrev pub invariant-chain : goal.invariant-chain

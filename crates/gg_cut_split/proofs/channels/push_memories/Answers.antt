@@ -1,6 +1,7 @@
 use Rattle.std.proofs.Common.{◌∙◌, ◌+◌, ◌<◌, ℕ, List, length, refl, ap, subst}
 use Rattle.gg_flat.specs.Line.{value_at}
-use Rattle.gg_cut_plan.specs.Machines.{Counts, first_memory, memory_after}
+use Rattle.gg_cut_plan.specs.inside.Machines.{Counts}
+use Rattle.gg_cut_plan.specs.Machines.{first_memory, memory_after}
 use Rattle.gg_cut_plan.specs.Channels.{field_wires}
 use Rattle.gg_cut_split.proofs.NumberedLemmas.{numbered-pushed, memory-step, memory-read}
 use Rattle.gg_cut_split.proofs.channels.push_memories.Goals as goal

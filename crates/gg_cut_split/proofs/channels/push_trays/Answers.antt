@@ -3,7 +3,7 @@ use Rattle.gg_cut_plan.specs.declared.wires.Wire.{Wire}
 use Rattle.gg_flat.specs.Line.{value_at}
 use Rattle.gg_cut_plan.specs.Machines.{tray_after}
 use Rattle.gg_cut_plan.specs.Channels.{wire}
-use Rattle.gg_cut_split.specs.Spread.{held_wires}
+use Rattle.gg_cut_split.specs.inside.Spread.{held_wires}
 use Rattle.gg_cut_split.proofs.NumberedLemmas.{numbered-pushed}
 use Rattle.gg_cut_split.proofs.channels.push_trays.Goals as goal
 

@@ -1,7 +1,7 @@
 use Rattle.std.proofs.Common.{◌≡◌, ◌++◌, take}
 use Rattle.gg_cut_plan.specs.Machines.{tray_after}
 use Rattle.gg_cut_plan.specs.Channels.{numbered}
-use Rattle.gg_cut_split.specs.Spread.{held_wires}
+use Rattle.gg_cut_split.specs.inside.Spread.{held_wires}
 use Rattle.gg_cut_split.proofs.channels.push_trays.Given as goal
 
 abbrev pub invariant-loop-place : goal.invariant-loop-place

@@ -1,6 +1,6 @@
 use Rattle.std.proofs.Common.{List, ℕ, length, sym, ◌∙◌, ap, subst, arith}
 use Rattle.gg_flat.specs.Line.{value_at}
-use Rattle.gg_cut_plan.specs.Machines.{Counts}
+use Rattle.gg_cut_plan.specs.inside.Machines.{Counts}
 use Rattle.gg_cut_plan.specs.Plan.{IsInner}
 use Rattle.gg_cut_plan.specs.declared.wires.Wire.{Wire}
 use Rattle.gg_cut_split.proofs.ShareLemmas.{inner-owner}

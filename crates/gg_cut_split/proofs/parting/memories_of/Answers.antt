@@ -1,6 +1,6 @@
 use Rattle.std.proofs.Common.{List, ℕ, length, ◌∙◌, ap, arith}
 use Rattle.gg_flat.specs.Line.{value_at}
-use Rattle.gg_cut_plan.specs.Machines.{Counts}
+use Rattle.gg_cut_plan.specs.inside.Machines.{Counts}
 use Rattle.gg_cut_split.proofs.PartingLemmas.{machines-known, each-memories}
 use Rattle.gg_cut_split.proofs.parting.memories_of.Goals as goal
 

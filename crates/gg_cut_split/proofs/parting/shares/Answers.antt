@@ -1,5 +1,5 @@
 use Rattle.std.proofs.Common.{length, ◌∙◌, ap, arith}
-use Rattle.gg_cut_plan.specs.Machines.{Counts, end_after}
+use Rattle.gg_cut_plan.specs.inside.Machines.{Counts, end_after}
 use Rattle.gg_cut_split.proofs.PartingLemmas.{sides-known, all-shares}
 use Rattle.gg_cut_split.proofs.parting.shares.Goals as goal
 

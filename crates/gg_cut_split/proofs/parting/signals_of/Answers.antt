@@ -1,5 +1,5 @@
 use Rattle.std.proofs.Common.{List, Option, ℕ, length, sym, ◌∙◌, ap, subst, arith}
-use Rattle.gg_cut_split.specs.Spread.{AreChannels}
+use Rattle.gg_cut_split.specs.inside.Spread.{AreChannels}
 use Rattle.gg_cut_split.proofs.PartingLemmas.{ends-known, owners-known, wires-known, order-known, each-signals}
 use Rattle.gg_cut_split.proofs.parting.signals_of.Goals as goal
 

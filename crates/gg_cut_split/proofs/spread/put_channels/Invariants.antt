@@ -2,7 +2,7 @@ use Rattle.std.proofs.Common.{length}
 use Rattle.std.specs.Prelude.{filter, ◌==◌}
 use Rattle.std.specs.List.{range_with_len}
 use Rattle.gg_cut_plan.specs.Plan.{wire_at}
-use Rattle.gg_cut_split.specs.Spread.{AreLists}
+use Rattle.gg_cut_split.specs.inside.Spread.{AreLists}
 use Rattle.gg_cut_split.proofs.spread.put_channels.Given as goal
 
 abbrev pub invariant-loop-channel : goal.invariant-loop-channel

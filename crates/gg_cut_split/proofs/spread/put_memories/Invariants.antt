@@ -1,5 +1,5 @@
 use Rattle.std.proofs.Common.{length}
-use Rattle.gg_cut_split.specs.Spread.{AreLists, memories_below}
+use Rattle.gg_cut_split.specs.inside.Spread.{AreLists, memories_below}
 use Rattle.gg_cut_split.proofs.spread.put_memories.Given as goal
 
 abbrev pub invariant-loop-place : goal.invariant-loop-place

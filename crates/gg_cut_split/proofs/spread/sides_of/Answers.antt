@@ -3,7 +3,7 @@ use Rattle.std.specs.Prelude.{All}
 use Rattle.std.proofs.lemmas.List.{length-replicate}
 use Rattle.gg_cut_plan.specs.declared.wires.Wire.{Wire}
 use Rattle.gg_cut_plan.specs.Plan.{channels_to, channels_from}
-use Rattle.gg_cut_split.specs.Spread.{AreLists}
+use Rattle.gg_cut_split.specs.inside.Spread.{AreLists}
 use Rattle.gg_cut_split.proofs.GatherLemmas.{written}
 use Rattle.gg_cut_split.proofs.spread.sides_of.Goals as goal
 

@@ -1,7 +1,7 @@
 use Rattle.std.proofs.Common.{◌∙◌, ap}
 use Rattle.gg_flat.specs.Line.{value_at}
 use Rattle.gg_cut_plan.specs.Listed.{has_signal}
-use Rattle.gg_cut_split.specs.Spread.{claimed}
+use Rattle.gg_cut_split.specs.inside.Spread.{claimed}
 use Rattle.gg_cut_split.proofs.TableLemmas.{OwnedTo-more}
 use Rattle.gg_cut_split.proofs.tables.claim_units.Goals as goal
 

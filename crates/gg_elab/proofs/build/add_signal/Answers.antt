@@ -1,9 +1,9 @@
 use Rattle.std.proofs.Common.{◌≡◌, ℕ, [], ◌∷◌, ◌++◌, length, ap, refl, sym, subst, arith}
 use Rattle.gg_bits.specs.Shape.{shape}
 use Rattle.gg_flat.specs.Circuit.{FlatCircuit}
-use Rattle.gg_elab.specs.Building.{IsMade, IsSoFar}
+use Rattle.gg_elab.specs.inside.Building.{IsMade, IsSoFar}
 use Rattle.gg_elab_sites.specs.Flat.{FlatSignal, flat_signal}
-use Rattle.gg_elab_sites.specs.Views.{table_bindings, own_of, site_of}
+use Rattle.gg_elab_sites.specs.inside.Views.{table_bindings, own_of, site_of}
 use Rattle.gg_elab_sites.specs.Known.{types_of}
 use Rattle.gg_elab.proofs.BuildLemmas.{so_far-more}
 use Rattle.gg_elab.proofs.build.add_signal.Goals as goal

@@ -3,9 +3,9 @@ use Rattle.std.specs.Prelude.{Contains}
 use Rattle.std.proofs.lemmas.List.{append-nil, take_all}
 use Rattle.std.proofs.lemmas.Simd.{map-map}
 use Rattle.gg_flat_tree.specs.Tree.{joined}
-use Rattle.gg_elab.specs.Building.{IsSoFarAt}
+use Rattle.gg_elab.specs.inside.Building.{IsSoFarAt}
 use Rattle.gg_elab_sites.specs.Flat.{FlatSignal, flat_signal, signals_at}
-use Rattle.gg_elab_sites.specs.Views.{own_of, site_of}
+use Rattle.gg_elab_sites.specs.inside.Views.{own_of, site_of}
 use Rattle.gg_elab_sites.specs.Known.{types_of}
 use Rattle.gg_elab_sites.specs.declared.digest.Digest.{Digest}
 use Rattle.gg_elab_sites.specs.declared.own.OwnSignal.{OwnSignal}

@@ -1,8 +1,8 @@
 use Rattle.std.proofs.Common.{◌≡◌, ◌++◌, List, map, take}
 use Rattle.gg_flat_tree.specs.Tree.{joined}
 use Rattle.gg_elab_sites.specs.Flat.{FlatSignal, flat_signal}
-use Rattle.gg_elab_sites.specs.Views.{site_of, own_of}
-use Rattle.gg_elab.specs.Building.{IsSoFarAt}
+use Rattle.gg_elab_sites.specs.inside.Views.{site_of, own_of}
+use Rattle.gg_elab.specs.inside.Building.{IsSoFarAt}
 use Rattle.gg_elab.proofs.build.add_site.Given as goal
 
 abbrev pub invariant-loop-signal : goal.invariant-loop-signal

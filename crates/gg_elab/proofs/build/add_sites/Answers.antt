@@ -2,7 +2,7 @@ use Rattle.std.proofs.Common.{◌≡◌, ℕ, ◌+◌, List, ◌++◌, map, take
 use Rattle.std.proofs.lemmas.List.{map-append}
 use Rattle.gg_elab_sites.specs.Known.{types_of}
 use Rattle.gg_elab_sites.specs.Flat.{FlatSignal, signals_at, flat_signals}
-use Rattle.gg_elab_sites.specs.Views.{site_of}
+use Rattle.gg_elab_sites.specs.inside.Views.{site_of}
 use Rattle.gg_elab_sites.proofs.FlatLemmas.{one_more}
 use Rattle.gg_elab_sites.proofs.FreshLemmas.{parts-front}
 use Rattle.gg_elab_sites.proofs.NameLemmas.{Differ}

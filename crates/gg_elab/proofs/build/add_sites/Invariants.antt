@@ -1,8 +1,8 @@
 use Rattle.std.proofs.Common.{map, take}
 use Rattle.gg_elab_sites.specs.Known.{types_of}
 use Rattle.gg_elab_sites.specs.Flat.{flat_signals}
-use Rattle.gg_elab_sites.specs.Views.{site_of, table_bindings}
-use Rattle.gg_elab.specs.Building.{IsSoFar}
+use Rattle.gg_elab_sites.specs.inside.Views.{site_of, table_bindings}
+use Rattle.gg_elab.specs.inside.Building.{IsSoFar}
 use Rattle.gg_elab.proofs.build.add_sites.Given as goal
 
 abbrev pub invariant-loop-place : goal.invariant-loop-place

@@ -6,9 +6,9 @@ use Rattle.gg_ast.proofs.NamePlaces.{place_of-below}
 use Rattle.gg_elab_sites.specs.Sites.{Site, module_at, sites_of}
 use Rattle.gg_flat.specs.Circuit.{FlatCircuit}
 use Rattle.gg_elab_sites.specs.Known.{types_of}
-use Rattle.gg_elab_sites.specs.Views.{site_of, table_bindings, table_signals}
+use Rattle.gg_elab_sites.specs.inside.Views.{site_of, table_bindings, table_signals}
 use Rattle.gg_elab_sites.specs.declared.sites.Place.{Place}
-use Rattle.gg_elab.specs.Building.{IsSoFar, HasMemories}
+use Rattle.gg_elab.specs.inside.Building.{IsSoFar, HasMemories}
 use Rattle.gg_types.specs.Clocks.{clock_inputs}
 use Rattle.gg_elab_sites.specs.Flat.{FlatSignal, flat_signals, flat_memories, stop_paths}
 use Rattle.gg_elab_sites.specs.IsFlat.{signals_of, memory_paths, number_of, top_ports}

@@ -4,9 +4,9 @@ use Rattle.gg_ast.specs.Tree.{ModuleTree, CircuitTree, module_names}
 use Rattle.gg_ast.specs.Places.{place_of}
 use Rattle.gg_ast.proofs.NamePlaces.{place_of-below}
 use Rattle.gg_elab_sites.specs.Counts.{counts_of}
-use Rattle.gg_elab_sites.specs.Sites.{HoldsModule}
+use Rattle.gg_elab_sites.specs.inside.Sites.{HoldsModule}
 use Rattle.gg_shape_names.specs.Modules.{Holds}
-use Rattle.gg_graph.specs.Graph.{IsOrderOf}
+use Rattle.gg_graph.specs.inside.Graph.{IsOrderOf}
 use Rattle.gg_elab_sites.proofs.OrderLemmas.{order_of}
 use Rattle.gg_elab_sites.specs.Known.{types_of}
 use Rattle.gg_elab.specs.Limits.{own_counts}

@@ -1,9 +1,9 @@
 use Rattle.std.proofs.Common.{◌∙◌, ap, sym}
 use Rattle.gg_bits.specs.ResultType.{type1, type2, type_const, type_mux}
 use Rattle.gg_bits.specs.Shape.{shape}
-use Rattle.gg_ast.specs.TermOf.{term_of}
+use Rattle.gg_ast.specs.inside.TermOf.{term_of}
 use Rattle.gg_flat.specs.declared.line.Op.TheVariants.{One, Two, Fix, Mux}
-use Rattle.gg_elab.specs.Growing.{context_of, IsResultNode}
+use Rattle.gg_elab.specs.inside.Growing.{context_of, IsResultNode}
 use Rattle.gg_elab_sites.specs.Meaning.{term_shape}
 use Rattle.gg_elab.proofs.LineLemmas.{added_one, added_two, added_fix, added_mux}
 use Rattle.gg_elab.proofs.PlacedLemmas.{Stands, finished, operand}

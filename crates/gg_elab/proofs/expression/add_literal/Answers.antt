@@ -2,7 +2,7 @@ use Rattle.std.proofs.Common.{◌≡◌, ap, refl}
 use Rattle.gg_bits.specs.Shape.{shape}
 use Rattle.gg_ast.specs.Term.{ConstantTerm}
 use Rattle.gg_flat.specs.declared.line.Op.TheVariants.{Literal}
-use Rattle.gg_elab.specs.Growing.{context_of, IsZeroNode}
+use Rattle.gg_elab.specs.inside.Growing.{context_of, IsZeroNode}
 use Rattle.gg_elab.proofs.LineLemmas.{added_literal, added_no_literal}
 use Rattle.gg_elab.proofs.PlacedLemmas.{finished}
 use Rattle.gg_elab.proofs.expression.add_literal.Goals as goal

@@ -4,7 +4,7 @@ use Rattle.gg_bits.specs.declared.types.Ty.{Ty}
 use Rattle.gg_bits.specs.Shape.{shape, uint}
 use Rattle.gg_ast.specs.Term.{NamedTerm}
 use Rattle.gg_flat.specs.declared.line.Op.TheVariants.{Ref}
-use Rattle.gg_elab.specs.Growing.{context_of, IsZeroNode}
+use Rattle.gg_elab.specs.inside.Growing.{context_of, IsZeroNode}
 use Rattle.gg_elab_sites.specs.Meaning.{named}
 use Rattle.gg_elab.proofs.LineLemmas.{added_reference, added_nothing}
 use Rattle.gg_elab.proofs.PlacedLemmas.{finished}

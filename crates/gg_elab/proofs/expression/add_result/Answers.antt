@@ -1,7 +1,7 @@
 use Rattle.std.proofs.Common.{◌≡◌, subst, sym, Result}
 use Rattle.gg_bits.specs.declared.types.Bad.{Bad}
 use Rattle.gg_bits.specs.declared.types.Ty.{Ty}
-use Rattle.gg_elab.specs.Growing.{IsZeroNode, IsResultNode}
+use Rattle.gg_elab.specs.inside.Growing.{IsZeroNode, IsResultNode}
 use Rattle.gg_elab.proofs.PlacedLemmas.{placed-weaker}
 use Rattle.gg_elab.proofs.expression.add_result.Goals as goal
 

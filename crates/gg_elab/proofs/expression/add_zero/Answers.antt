@@ -2,7 +2,7 @@ use Rattle.std.proofs.Common.{◌≡◌, ◌∙◌, ap}
 use Rattle.gg_bits.specs.declared.types.Kind.TheVariants.{UInt}
 use Rattle.gg_bits.specs.Shape.{shape, of_kind}
 use Rattle.gg_flat.specs.declared.line.Op.TheVariants.{Literal}
-use Rattle.gg_elab.specs.Growing.{IsZeroNode}
+use Rattle.gg_elab.specs.inside.Growing.{IsZeroNode}
 use Rattle.gg_elab.proofs.PlacedLemmas.{placed-weaker}
 use Rattle.gg_elab.proofs.expression.add_zero.Goals as goal
 

@@ -3,7 +3,7 @@ use Rattle.std.proofs.lemmas.Result.{IfOk-weaker}
 use Rattle.gg_bits.specs.Shape.{Shape, shape, uint, of_kind}
 use Rattle.gg_flat.specs.declared.line.Node.{Node}
 use Rattle.gg_flat.specs.Line.{HasType, IsCondition}
-use Rattle.gg_elab.specs.Growing.{context_of, Added, IsCut}
+use Rattle.gg_elab.specs.inside.Growing.{context_of, Added, IsCut}
 use Rattle.gg_bits.specs.declared.types.Kind.TheVariants.{UInt}
 use Rattle.gg_bits.specs.ResultType.{is_condition}
 use Rattle.gg_elab_sites.specs.IsFlat.{IsConditionOf}

@@ -2,9 +2,9 @@ use Rattle.std.proofs.Common.{◌≡◌, ap, sym, subst, Some}
 use Rattle.std.proofs.lemmas.Result.{IfOk-weaker}
 use Rattle.gg_bits.specs.Shape.{shape}
 use Rattle.gg_elab_sites.specs.Connection.{Connection, ConnectedTo}
-use Rattle.gg_elab.specs.Growing.{context_of}
+use Rattle.gg_elab.specs.inside.Growing.{context_of}
 use Rattle.gg_elab_sites.specs.IsFlat.{IsLineFor, IsLineOf}
-use Rattle.gg_elab_sites.specs.Views.{connection}
+use Rattle.gg_elab_sites.specs.inside.Views.{connection}
 use Rattle.gg_elab.proofs.lines.given_line.Goals as goal
 
 pub returns-in-Of-clause-stands : goal.returns-in-Of-clause-stands

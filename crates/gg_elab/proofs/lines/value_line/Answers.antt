@@ -3,7 +3,7 @@ use Rattle.std.proofs.lemmas.Result.{IfOk-weaker}
 use Rattle.gg_bits.specs.Shape.{Shape, shape}
 use Rattle.gg_flat.specs.declared.line.Node.{Node}
 use Rattle.gg_flat.specs.Line.{HasType, IsSource}
-use Rattle.gg_elab.specs.Growing.{context_of, Added, IsCut}
+use Rattle.gg_elab.specs.inside.Growing.{context_of, Added, IsCut}
 use Rattle.gg_elab_sites.specs.IsFlat.{IsLineOf}
 use Rattle.gg_elab_sites.specs.Meaning.{takes}
 use Rattle.gg_elab.proofs.WholeLineLemmas.{cut_stands, cut_fits}

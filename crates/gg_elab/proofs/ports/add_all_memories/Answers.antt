@@ -1,6 +1,6 @@
 use Rattle.std.proofs.Common.{◌<◌, List, ◌++◌, map, take, length, sym, ap, ◌∙◌, subst, arith}
-use Rattle.gg_elab_sites.specs.Views.{IsPlaceIn, own_bank_of, site_of}
-use Rattle.gg_elab.specs.Building.{HasMemories}
+use Rattle.gg_elab_sites.specs.inside.Views.{IsPlaceIn, own_bank_of, site_of}
+use Rattle.gg_elab.specs.inside.Building.{HasMemories}
 use Rattle.gg_elab_sites.specs.Flat.{FlatMemory, flat_memory, flat_memories}
 use Rattle.gg_elab_sites.specs.Known.{types_of}
 use Rattle.gg_elab_sites.specs.declared.digest.Digest.{Digest}

@@ -1,6 +1,6 @@
 use Rattle.std.proofs.Common.{List, ◌++◌, map, take, subst, arith}
 use Rattle.std.proofs.lemmas.List.{take_all}
-use Rattle.gg_elab.specs.Building.{HasMemories, memory_of}
+use Rattle.gg_elab.specs.inside.Building.{HasMemories, memory_of}
 use Rattle.gg_elab_sites.specs.Flat.{FlatMemory}
 use Rattle.gg_elab_sites.specs.declared.digest.OwnMemory.{OwnMemory}
 use Rattle.gg_elab_sites.proofs.FlatLemmas.{seam}

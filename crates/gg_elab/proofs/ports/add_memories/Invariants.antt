@@ -1,6 +1,6 @@
 use Rattle.std.proofs.Common.{◌++◌, List, map, take}
 use Rattle.gg_elab_sites.specs.Flat.{FlatMemory}
-use Rattle.gg_elab.specs.Building.{HasMemories, memory_of}
+use Rattle.gg_elab.specs.inside.Building.{HasMemories, memory_of}
 use Rattle.gg_elab.proofs.ports.add_memories.Given as goal
 
 abbrev pub invariant-loop-own : goal.invariant-loop-own

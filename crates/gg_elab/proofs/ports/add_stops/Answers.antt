@@ -2,7 +2,7 @@ use Rattle.std.proofs.Common.{◌≡◌, ◌<◌, List, ◌++◌, length, map, s
 use Rattle.gg_flat_tree.specs.Tree.{joined}
 use Rattle.gg_elab_sites.specs.IsFlat.{number_of}
 use Rattle.gg_elab_sites.specs.Known.{types_of}
-use Rattle.gg_elab_sites.specs.Views.{IsPlaceIn}
+use Rattle.gg_elab_sites.specs.inside.Views.{IsPlaceIn}
 use Rattle.gg_elab_sites.specs.declared.sites.Place.{Place}
 use Rattle.gg_elab_sites.specs.declared.stops.OwnStop.{OwnStop}
 use Rattle.gg_elab_sites.proofs.FlatLemmas.{digest-at}

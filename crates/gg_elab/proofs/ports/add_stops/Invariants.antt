@@ -1,7 +1,7 @@
 use Rattle.std.proofs.Common.{◌≡◌, ◌++◌, map, take}
 use Rattle.gg_elab_sites.specs.Flat.{stop_paths}
 use Rattle.gg_elab_sites.specs.IsFlat.{number_of}
-use Rattle.gg_elab_sites.specs.Views.{site_of}
+use Rattle.gg_elab_sites.specs.inside.Views.{site_of}
 use Rattle.gg_elab.proofs.ports.add_stops.Given as goal
 
 abbrev pub invariant-loop-place : goal.invariant-loop-place

@@ -1,7 +1,7 @@
 use Rattle.std.proofs.Common.{refl, sym, ◌∙◌}
 use Rattle.std.proofs.lemmas.Simd.{map-map}
 use Rattle.gg_elab_sites.specs.IsFlat.{reader_of, writer_of}
-use Rattle.gg_elab.specs.Building.{memory_of}
+use Rattle.gg_elab.specs.inside.Building.{memory_of}
 use Rattle.gg_elab.proofs.ports.memory.Goals as goal
 
 pub returns : goal.returns

@@ -1,6 +1,6 @@
 use Rattle.std.proofs.Common.{◌≡◌, map, take}
 use Rattle.gg_elab_sites.specs.IsFlat.{reader_of}
-use Rattle.gg_elab.specs.Building.{memory_of}
+use Rattle.gg_elab.specs.inside.Building.{memory_of}
 use Rattle.gg_elab.proofs.ports.readers.Given as goal
 
 abbrev pub invariant-loop-port : goal.invariant-loop-port

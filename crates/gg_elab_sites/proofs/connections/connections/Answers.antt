@@ -1,7 +1,7 @@
 use Rattle.std.proofs.Common.{◌≡◌, List, [], ◌∷◌, ◌++◌, take, ap, sym, ◌∙◌, subst, arith, ◌+◌}
 use Rattle.std.proofs.lemmas.List.{take_more}
 use Rattle.gg_ast.specs.declared.statement.Stmt.{Stmt}
-use Rattle.gg_elab_sites.specs.Views.{TellsConnections}
+use Rattle.gg_elab_sites.specs.inside.Views.{TellsConnections}
 use Rattle.gg_elab_sites.proofs.ConnectionLemmas.{tells-more}
 use Rattle.gg_elab_sites.proofs.connections.connections.Goals as goal
 

@@ -1,5 +1,5 @@
 use Rattle.std.proofs.Common.{◌≡◌, length, take}
-use Rattle.gg_elab_sites.specs.Views.{TellsConnections}
+use Rattle.gg_elab_sites.specs.inside.Views.{TellsConnections}
 use Rattle.gg_elab_sites.proofs.connections.connections.Given as goal
 
 abbrev pub invariant-loop-statement : goal.invariant-loop-statement

@@ -4,7 +4,7 @@ use Rattle.std.specs.Prelude.{is_some}
 use Rattle.gg_ast.specs.Places.{place_of}
 use Rattle.gg_elab_sites.specs.declared.connections.Source.{Source}
 use Rattle.gg_bits.specs.Lists.{or_else}
-use Rattle.gg_elab_sites.specs.Views.{connection, source_at}
+use Rattle.gg_elab_sites.specs.inside.Views.{connection, source_at}
 use Rattle.gg_elab_sites.proofs.ConnectionLemmas.{noted, noted-again, found-there}
 use Rattle.gg_elab_sites.proofs.connections.note_sink.Goals as goal
 

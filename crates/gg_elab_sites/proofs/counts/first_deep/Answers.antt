@@ -1,6 +1,6 @@
 use Rattle.std.proofs.Common.{List, ◌∙◌, ap, length}
 use Rattle.gg_ast.specs.Tree.{ModuleTree}
-use Rattle.gg_elab_sites.specs.Counts.{deep_at, deep_places}
+use Rattle.gg_elab_sites.specs.inside.Counts.{deep_at, deep_places}
 use Rattle.gg_elab_sites.proofs.CountLemmas.{deep-found, length-deep_places}
 use Rattle.gg_elab_sites.proofs.counts.first_deep.Goals as goal
 

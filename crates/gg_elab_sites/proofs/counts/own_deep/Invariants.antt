@@ -1,5 +1,5 @@
 use Rattle.std.proofs.Common.{◌≡◌, ◌++◌, drop, length}
-use Rattle.gg_elab_sites.specs.Counts.{deep_places}
+use Rattle.gg_elab_sites.specs.inside.Counts.{deep_places}
 use Rattle.gg_elab_sites.proofs.counts.own_deep.Given as goal
 
 -- an entry for each module so far: with those of the modules that are left they are the entries of all modules

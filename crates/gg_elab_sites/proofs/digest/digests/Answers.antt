@@ -1,6 +1,6 @@
 use Rattle.std.proofs.Common.{ℕ, subst, arith}
 use Rattle.gg_elab_sites.specs.Known.{types_of}
-use Rattle.gg_elab_sites.specs.Views.{IsDigest}
+use Rattle.gg_elab_sites.specs.inside.Views.{IsDigest}
 use Rattle.gg_elab_sites.proofs.DigestLemmas.{digests-more}
 use Rattle.gg_elab_sites.proofs.digest.digests.Goals as goal
 

@@ -2,7 +2,7 @@ use Rattle.std.proofs.Common.{◌≡◌, ℕ, ◌<◌, length}
 use Rattle.std.specs.Prelude.{slice_index_or}
 use Rattle.gg_elab_sites.specs.declared.digest.Digest.{Digest}
 use Rattle.gg_elab_sites.specs.Known.{types_of}
-use Rattle.gg_elab_sites.specs.Views.{IsDigest}
+use Rattle.gg_elab_sites.specs.inside.Views.{IsDigest}
 use Rattle.gg_elab_sites.proofs.digest.digests.Given as goal
 
 abbrev pub invariant-loop-body : goal.invariant-loop-body

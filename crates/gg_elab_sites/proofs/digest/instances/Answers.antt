@@ -1,7 +1,7 @@
 use Rattle.std.proofs.Common.{◌∙◌, ap, ◌++◌, option_to_list, map, [], arith}
 use Rattle.gg_ast.specs.declared.statement.Stmt.{Stmt}
 use Rattle.gg_elab_sites.specs.Sites.{held_by_kind}
-use Rattle.gg_elab_sites.specs.Views.{held_of}
+use Rattle.gg_elab_sites.specs.inside.Views.{held_of}
 use Rattle.gg_elab_sites.proofs.ListLemmas.{filter_map-more}
 use Rattle.gg_elab_sites.proofs.digest.instances.Goals as goal
 

@@ -1,5 +1,5 @@
 use Rattle.std.proofs.Common.{◌≡◌, map, take}
-use Rattle.gg_elab_sites.specs.Views.{held_of}
+use Rattle.gg_elab_sites.specs.inside.Views.{held_of}
 use Rattle.gg_elab_sites.specs.Sites.{held_by}
 use Rattle.gg_elab_sites.proofs.digest.instances.Given as goal
 

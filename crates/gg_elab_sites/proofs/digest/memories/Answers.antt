@@ -1,7 +1,7 @@
 use Rattle.std.proofs.Common.{map, [], arith}
 use Rattle.gg_ast.specs.declared.statement.Stmt.{Stmt}
 use Rattle.gg_elab_sites.specs.Signals.{bank_of_kind}
-use Rattle.gg_elab_sites.specs.Views.{own_bank_of}
+use Rattle.gg_elab_sites.specs.inside.Views.{own_bank_of}
 use Rattle.gg_elab_sites.proofs.ListLemmas.{filter_map-more}
 use Rattle.gg_elab_sites.proofs.digest.memories.Goals as goal
 

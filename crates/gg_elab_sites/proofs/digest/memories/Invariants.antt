@@ -1,5 +1,5 @@
 use Rattle.std.proofs.Common.{◌≡◌, map, take}
-use Rattle.gg_elab_sites.specs.Views.{own_bank_of}
+use Rattle.gg_elab_sites.specs.inside.Views.{own_bank_of}
 use Rattle.gg_elab_sites.specs.Signals.{own_banks}
 use Rattle.gg_elab_sites.proofs.digest.memories.Given as goal
 

@@ -1,6 +1,6 @@
 use Rattle.std.proofs.Common.{map, arith}
 use Rattle.gg_elab_sites.specs.Signals.{own_of_port}
-use Rattle.gg_elab_sites.specs.Views.{own_of}
+use Rattle.gg_elab_sites.specs.inside.Views.{own_of}
 use Rattle.gg_elab_sites.proofs.ListLemmas.{filter_map-more}
 use Rattle.gg_elab_sites.proofs.own.add_ports.Goals as goal
 

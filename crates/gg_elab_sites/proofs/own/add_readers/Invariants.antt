@@ -1,6 +1,6 @@
 use Rattle.std.proofs.Common.{◌≡◌, ◌++◌, map, drop}
-use Rattle.gg_elab_sites.specs.Views.{own_of}
-use Rattle.gg_types.specs.Memories.{bank_seen}
+use Rattle.gg_elab_sites.specs.inside.Views.{own_of}
+use Rattle.gg_types.specs.inside.Memories.{bank_seen}
 use Rattle.gg_elab_sites.specs.Signals.{readers_signals}
 use Rattle.gg_elab_sites.proofs.own.add_readers.Given as goal
 

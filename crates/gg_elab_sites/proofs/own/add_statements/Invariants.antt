@@ -1,6 +1,6 @@
 use Rattle.std.proofs.Common.{◌≡◌, ◌++◌, map, take}
 use Rattle.std.specs.Prelude.{flat_map}
-use Rattle.gg_elab_sites.specs.Views.{own_of}
+use Rattle.gg_elab_sites.specs.inside.Views.{own_of}
 use Rattle.gg_ast.specs.declared.statement.Stmt.{Stmt}
 use Rattle.gg_elab_sites.specs.Known.{types_of}
 use Rattle.gg_elab_sites.specs.Signals.{own_of_kind}

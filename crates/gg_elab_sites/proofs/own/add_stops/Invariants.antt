@@ -1,6 +1,6 @@
 use Rattle.std.proofs.Common.{◌≡◌, ◌++◌, map, take}
 use Rattle.gg_elab_sites.specs.Signals.{stop_signal}
-use Rattle.gg_elab_sites.specs.Views.{own_of, own_stop_of}
+use Rattle.gg_elab_sites.specs.inside.Views.{own_of, own_stop_of}
 use Rattle.gg_elab_sites.proofs.own.add_stops.Given as goal
 
 abbrev pub invariant-loop-stop : goal.invariant-loop-stop

@@ -1,7 +1,7 @@
 use Rattle.std.proofs.Common.{◌≡◌, ◌++◌, map, take}
 use Rattle.std.specs.Prelude.{flat_map}
-use Rattle.gg_elab_sites.specs.Views.{own_of}
-use Rattle.gg_types.specs.Memories.{bank_seen}
+use Rattle.gg_elab_sites.specs.inside.Views.{own_of}
+use Rattle.gg_types.specs.inside.Memories.{bank_seen}
 use Rattle.gg_elab_sites.specs.Signals.{writer_signals}
 use Rattle.gg_elab_sites.proofs.own.add_writers.Given as goal
 

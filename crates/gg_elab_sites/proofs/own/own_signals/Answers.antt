@@ -3,7 +3,7 @@ use Rattle.std.proofs.lemmas.Simd.{map-map}
 use Rattle.gg_ast.specs.declared.statement.Stmt.{Stmt}
 use Rattle.gg_elab_sites.specs.Known.{types_of}
 use Rattle.gg_elab_sites.specs.Signals.{Own, own_of_port, own_of_kind, own_stops, stop_signal}
-use Rattle.gg_elab_sites.specs.Views.{own_of, own_stop_of}
+use Rattle.gg_elab_sites.specs.inside.Views.{own_of, own_stop_of}
 use Rattle.gg_elab_sites.proofs.own.own_signals.Goals as goal
 
 pub returns : goal.returns

@@ -1,6 +1,6 @@
 use Rattle.std.proofs.Common.{◌≡◌, drop, get_or}
 use Rattle.gg_elab_sites.specs.Sites.{held_by}
-use Rattle.gg_elab_sites.specs.Graph.{gathered_over}
+use Rattle.gg_elab_sites.specs.inside.Graph.{gathered_over}
 use Rattle.gg_elab_sites.proofs.pass.gather_over.Given as goal
 
 -- what is gathered so far, with the statements that are left, is what is gathered over all

@@ -3,7 +3,7 @@ use Rattle.std.specs.Prelude.{All}
 use Rattle.std.proofs.lemmas.List.{map-append, take_all, append-nil}
 use Rattle.std.proofs.lemmas.List.Elements.{All-push}
 use Rattle.gg_elab_sites.specs.Sites.{Held, Site, site_below, sites, held_at}
-use Rattle.gg_elab_sites.specs.Views.{IsPlaceIn, site_of, held_of}
+use Rattle.gg_elab_sites.specs.inside.Views.{IsPlaceIn, site_of, held_of}
 use Rattle.gg_elab_sites.specs.Known.{types_of}
 use Rattle.gg_elab_sites.specs.declared.digest.Digest.{Digest}
 use Rattle.gg_elab_sites.specs.declared.sites.Place.{Place}

@@ -1,5 +1,5 @@
 use Rattle.std.proofs.Common.{map, take}
-use Rattle.gg_elab_sites.specs.Views.{held_of, site_of, IsPlaceIn}
+use Rattle.gg_elab_sites.specs.inside.Views.{held_of, site_of, IsPlaceIn}
 use Rattle.std.specs.Prelude.{All}
 use Rattle.gg_elab_sites.proofs.SiteLemmas.{Grown}
 use Rattle.gg_elab_sites.proofs.sites.+add_site.Given as goal

@@ -1,5 +1,5 @@
 use Rattle.std.proofs.Common.{◌≡◌, map, take}
-use Rattle.gg_elab_sites.specs.Views.{step_of}
+use Rattle.gg_elab_sites.specs.inside.Views.{step_of}
 use Rattle.gg_elab_sites.proofs.sites.steps_copied.Given as goal
 
 abbrev pub invariant-loop-step : goal.invariant-loop-step

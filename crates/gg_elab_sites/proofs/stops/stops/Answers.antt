@@ -3,7 +3,7 @@ use Rattle.std.proofs.lemmas.List.{length-map}
 use Rattle.std.specs.Prelude.{filter_map}
 use Rattle.gg_ast.specs.declared.statement.Stmt.{Stmt}
 use Rattle.gg_elab_sites.specs.Signals.{OwnStop, numbered, own_stops, stop_of_kind}
-use Rattle.gg_elab_sites.specs.Views.{own_stop_of}
+use Rattle.gg_elab_sites.specs.inside.Views.{own_stop_of}
 use Rattle.gg_elab_sites.proofs.StopLemmas.{counted-more, stops-more}
 use Rattle.gg_elab_sites.proofs.stops.stops.Goals as goal
 

@@ -4,7 +4,7 @@ use Rattle.std.proofs.lemmas.Simd.{map-map}
 use Rattle.gg_bits.specs.Shape.{shape}
 use Rattle.gg_flat_tree.specs.Tree.{joined}
 use Rattle.gg_elab_sites.specs.Flat.{FlatSignal, flat_signal, signals_at, flat_signals, FlatMemory, flat_memory, memories_at, flat_memories}
-use Rattle.gg_elab_sites.specs.Views.{table_signals, own_of, own_bank_of, site_of}
+use Rattle.gg_elab_sites.specs.inside.Views.{table_signals, own_of, own_bank_of, site_of}
 use Rattle.gg_elab_sites.specs.IsFlat.{signals_of, memory_paths}
 use Rattle.gg_elab_sites.specs.Known.{types_of}
 use Rattle.gg_elab_sites.specs.Meaning.{Signals}

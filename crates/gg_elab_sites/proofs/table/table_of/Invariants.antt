@@ -1,7 +1,7 @@
 use Rattle.std.proofs.Common.{◌≡◌, map, take}
 use Rattle.gg_elab_sites.specs.Known.{types_of}
 use Rattle.gg_elab_sites.specs.Flat.{flat_signals, flat_memories}
-use Rattle.gg_elab_sites.specs.Views.{table_signals, site_of}
+use Rattle.gg_elab_sites.specs.inside.Views.{table_signals, site_of}
 use Rattle.gg_elab_sites.specs.IsFlat.{signals_of, memory_paths}
 use Rattle.gg_elab_sites.proofs.table.table_of.Given as goal
 

@@ -1,8 +1,8 @@
 use Rattle.std.proofs.Common.{◌+◌, flat_map, take, arith}
 use Rattle.gg_elab_sites.specs.Sites.{module_at}
 use Rattle.gg_elab_sites.specs.declared.own.OwnSignal.{OwnSignal}
-use Rattle.gg_elab_sites.specs.Views.{cause_of}
-use Rattle.gg_elab_tree.specs.TreeParts.{clock_kept}
+use Rattle.gg_elab_sites.specs.inside.Views.{cause_of}
+use Rattle.gg_elab_tree.specs.inside.TreeParts.{clock_kept}
 use Rattle.gg_elab_tree.proofs.KeptLemmas.{register_clocks-more}
 use Rattle.gg_elab_tree.proofs.StopPartLemmas.{flat-seam}
 use Rattle.gg_elab_tree.proofs.clocks.add_all_kept.Goals as goal

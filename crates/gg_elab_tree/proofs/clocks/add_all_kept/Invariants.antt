@@ -1,7 +1,7 @@
 use Rattle.std.proofs.Common.{◌≡◌, ◌++◌, flat_map, take}
 use Rattle.gg_elab_sites.specs.Sites.{module_at}
-use Rattle.gg_elab_sites.specs.Views.{cause_of}
-use Rattle.gg_elab_tree.specs.TreeParts.{clock_kept, with_register_clocks}
+use Rattle.gg_elab_sites.specs.inside.Views.{cause_of}
+use Rattle.gg_elab_tree.specs.inside.TreeParts.{clock_kept, with_register_clocks}
 use Rattle.gg_elab_tree.proofs.clocks.add_all_kept.Given as goal
 
 abbrev pub invariant-loop-signal : goal.invariant-loop-signal

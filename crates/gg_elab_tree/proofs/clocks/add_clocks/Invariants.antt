@@ -1,6 +1,6 @@
 use Rattle.std.proofs.Common.{◌≡◌, ◌++◌, take}
 use Rattle.gg_types.specs.Clocks.{clock_inputs}
-use Rattle.gg_elab_tree.specs.TreeParts.{with_clocks}
+use Rattle.gg_elab_tree.specs.inside.TreeParts.{with_clocks}
 use Rattle.gg_elab_tree.proofs.clocks.add_clocks.Given as goal
 
 abbrev pub invariant-loop-port : goal.invariant-loop-port

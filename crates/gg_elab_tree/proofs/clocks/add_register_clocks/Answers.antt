@@ -4,10 +4,10 @@ use Rattle.gg_elab_sites.specs.declared.own.OwnSignal.{OwnSignal}
 use Rattle.gg_elab_sites.specs.declared.sites.Place.{Place}
 use Rattle.gg_elab_sites.specs.Flat.{flat_signals}
 use Rattle.gg_elab_sites.specs.Known.{types_of}
-use Rattle.gg_elab_sites.specs.Views.{IsPlaceIn, cause_of, site_of}
+use Rattle.gg_elab_sites.specs.inside.Views.{IsPlaceIn, cause_of, site_of}
 use Rattle.gg_elab_sites.proofs.FlatLemmas.{digest-at}
 use Rattle.gg_elab_tree.specs.IsTreeOf.{clocks_held}
-use Rattle.gg_elab_tree.specs.TreeParts.{clock_kept}
+use Rattle.gg_elab_tree.specs.inside.TreeParts.{clock_kept}
 use Rattle.gg_elab_tree.proofs.KeptLemmas.{register_clocks-more}
 use Rattle.gg_elab_tree.proofs.StopPartLemmas.{held-clocks-more}
 use Rattle.gg_elab_tree.proofs.clocks.add_register_clocks.Goals as goal

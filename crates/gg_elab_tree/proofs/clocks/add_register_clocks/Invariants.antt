@@ -1,9 +1,9 @@
 use Rattle.std.proofs.Common.{◌≡◌, ◌++◌, map, take}
 use Rattle.gg_elab_sites.specs.Flat.{flat_signals}
 use Rattle.gg_elab_sites.specs.Known.{types_of}
-use Rattle.gg_elab_sites.specs.Views.{site_of}
+use Rattle.gg_elab_sites.specs.inside.Views.{site_of}
 use Rattle.gg_elab_tree.specs.IsTreeOf.{clocks_held}
-use Rattle.gg_elab_tree.specs.TreeParts.{with_register_clocks}
+use Rattle.gg_elab_tree.specs.inside.TreeParts.{with_register_clocks}
 use Rattle.gg_elab_tree.proofs.clocks.add_register_clocks.Given as goal
 
 abbrev pub invariant-loop-place : goal.invariant-loop-place

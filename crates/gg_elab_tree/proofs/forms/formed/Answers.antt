@@ -1,5 +1,5 @@
 use Rattle.std.proofs.Common.{◌≡◌, [], ◌∙◌, subst}
-use Rattle.gg_ast.specs.Names.{AreNamesOfCircuit}
+use Rattle.gg_ast.specs.inside.Names.{AreNamesOfCircuit}
 use Rattle.gg_ast.specs.Places.{place_of}
 use Rattle.gg_ast.specs.Tree.{CircuitTree, module_names}
 use Rattle.gg_elab_sites.specs.Sites.{sites_of}

@@ -2,7 +2,8 @@ use Rattle.std.proofs.Common.{◌≡◌, ℕ, ◌<◌, List, ◌++◌, ◌∷◌
 use Rattle.std.specs.Prelude.{All, Contains, IfSome}
 use Rattle.std.proofs.lemmas.List.{length-map}
 use Rattle.std.proofs.lemmas.Grind.{get_or_default_zero}
-use Rattle.gg_flat_tree.specs.Tree.{InstanceTree, joined, no_tree}
+use Rattle.gg_flat_tree.specs.Tree.{InstanceTree, joined}
+use Rattle.gg_flat_tree.specs.inside.Tree.{no_tree}
 use Rattle.gg_flat.proofs.ListLemmas.{Contains-map}
 use Rattle.gg_ast.specs.declared.module.Port.{Port}
 use Rattle.gg_ast.specs.Places.{place_of}
@@ -12,9 +13,9 @@ use Rattle.gg_shape_names.proofs.FindLemmas.{module-at}
 use Rattle.gg_elab_sites.specs.declared.sites.Place.{Place}
 use Rattle.gg_elab_sites.specs.declared.digest.OwnMemory.{OwnMemory}
 use Rattle.gg_elab_sites.specs.declared.sites.Around.{Around}
-use Rattle.gg_elab_sites.specs.Views.{IsPlaceIn, site_of}
+use Rattle.gg_elab_sites.specs.inside.Views.{IsPlaceIn, site_of}
 use Rattle.gg_elab_sites.specs.Known.{types_of}
-use Rattle.gg_elab_tree.specs.TreeParts.{IsInstanceAt, signals_to, signals_among}
+use Rattle.gg_elab_tree.specs.inside.TreeParts.{IsInstanceAt, signals_to, signals_among}
 use Rattle.gg_elab_tree.specs.IsTreeOf.{site_paths, signal_paths}
 use Rattle.gg_elab_sites.proofs.FlatLemmas.{digest-at}
 use Rattle.gg_elab_sites.proofs.FreshLemmas.{next-new}

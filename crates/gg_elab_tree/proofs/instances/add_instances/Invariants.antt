@@ -1,8 +1,8 @@
 use Rattle.std.proofs.Common.{◌≡◌, map, take}
-use Rattle.gg_flat_tree.specs.Tree.{no_tree}
+use Rattle.gg_flat_tree.specs.inside.Tree.{no_tree}
 use Rattle.gg_elab_tree.specs.IsTreeOf.{AreInstances}
-use Rattle.gg_elab_tree.specs.TreeParts.{place_paths, with_instances}
-use Rattle.gg_elab_sites.specs.Views.{site_of}
+use Rattle.gg_elab_tree.specs.inside.TreeParts.{place_paths, with_instances}
+use Rattle.gg_elab_sites.specs.inside.Views.{site_of}
 use Rattle.gg_elab_tree.proofs.instances.add_instances.Given as goal
 
 abbrev pub invariant-loop-i : goal.invariant-loop-i

@@ -1,5 +1,5 @@
 use Rattle.std.proofs.Common.{◌≡◌}
-use Rattle.gg_elab_tree.specs.TreeParts.{signals_to}
+use Rattle.gg_elab_tree.specs.inside.TreeParts.{signals_to}
 use Rattle.gg_elab_tree.proofs.TreePartLemmas.{TellsFirsts}
 use Rattle.gg_elab_tree.proofs.instances.firsts.Given as goal
 

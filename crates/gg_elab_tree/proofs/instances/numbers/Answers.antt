@@ -4,7 +4,7 @@ use Rattle.std.proofs.lemmas.List.Elements.{All-contains}
 use Rattle.gg_flat_tree.specs.Tree.{joined}
 use Rattle.gg_elab_sites.specs.declared.digest.OwnMemory.{OwnMemory}
 use Rattle.gg_elab_tree.specs.IsTreeOf.{IsAt, Pairwise}
-use Rattle.gg_elab_tree.specs.TreeParts.{IsNumberAt}
+use Rattle.gg_elab_tree.specs.inside.TreeParts.{IsNumberAt}
 use Rattle.gg_elab_tree.proofs.TreePartLemmas.{Pairwise-next}
 use Rattle.gg_elab_tree.proofs.instances.numbers.Goals as goal
 

@@ -1,6 +1,6 @@
 use Rattle.std.proofs.Common.{take}
 use Rattle.gg_elab_tree.specs.IsTreeOf.{Pairwise}
-use Rattle.gg_elab_tree.specs.TreeParts.{IsNumberAt}
+use Rattle.gg_elab_tree.specs.inside.TreeParts.{IsNumberAt}
 use Rattle.gg_elab_tree.proofs.instances.numbers.Given as goal
 
 abbrev pub invariant-loop-own : goal.invariant-loop-own

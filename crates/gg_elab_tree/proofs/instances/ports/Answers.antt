@@ -6,7 +6,7 @@ use Rattle.gg_flat_tree.specs.Tree.{joined}
 use Rattle.gg_flat_tree.specs.declared.tree.InstancePort.{InstancePort}
 use Rattle.gg_flat.proofs.ListLemmas.{Contains-filter}
 use Rattle.gg_elab_tree.specs.IsTreeOf.{Pairwise}
-use Rattle.gg_elab_tree.specs.TreeParts.{IsPortAt, is_signal, signals_among}
+use Rattle.gg_elab_tree.specs.inside.TreeParts.{IsPortAt, is_signal, signals_among}
 use Rattle.gg_elab_tree.proofs.TreePartLemmas.{Pairwise-filter}
 use Rattle.gg_elab_tree.proofs.instances.ports.Goals as goal
 

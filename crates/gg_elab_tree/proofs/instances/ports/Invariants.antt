@@ -1,6 +1,6 @@
 use Rattle.std.proofs.Common.{take}
 use Rattle.gg_elab_tree.specs.IsTreeOf.{Pairwise}
-use Rattle.gg_elab_tree.specs.TreeParts.{IsPortAt, signals_among}
+use Rattle.gg_elab_tree.specs.inside.TreeParts.{IsPortAt, signals_among}
 use Rattle.gg_elab_tree.proofs.instances.ports.Given as goal
 
 abbrev pub invariant-loop-one : goal.invariant-loop-one

@@ -5,10 +5,10 @@ use Rattle.gg_flat_tree.specs.Tree.{joined}
 use Rattle.gg_flat.proofs.ListLemmas.{Contains-map}
 use Rattle.gg_elab_sites.specs.declared.digest.OwnMemory.{OwnMemory}
 use Rattle.gg_elab_sites.specs.declared.sites.Place.{Place}
-use Rattle.gg_elab_sites.specs.Views.{IsPlaceIn, site_of}
+use Rattle.gg_elab_sites.specs.inside.Views.{IsPlaceIn, site_of}
 use Rattle.gg_elab_tree.specs.IsTreeOf.{Pairwise, HeldMemory, held_memories}
 use Rattle.gg_elab_sites.specs.Known.{types_of}
-use Rattle.gg_elab_tree.specs.TreeParts.{IsHeldFor, held_at_place}
+use Rattle.gg_elab_tree.specs.inside.TreeParts.{IsHeldFor, held_at_place}
 use Rattle.gg_elab_sites.specs.Flat.{FlatMemory, memories_at, flat_memories}
 use Rattle.gg_elab_sites.specs.IsFlat.{memory_paths}
 use Rattle.gg_elab_tree.proofs.KeptLemmas.{memories-kept}

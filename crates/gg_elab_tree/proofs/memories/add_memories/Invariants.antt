@@ -2,8 +2,8 @@ use Rattle.std.proofs.Common.{◌≡◌, map, flat_map, take}
 use Rattle.gg_elab_sites.specs.Flat.{flat_memories}
 use Rattle.gg_elab_sites.specs.IsFlat.{memory_paths}
 use Rattle.gg_elab_tree.specs.IsTreeOf.{Pairwise, held_memories}
-use Rattle.gg_elab_tree.specs.TreeParts.{IsHeldFor, with_memories}
-use Rattle.gg_elab_sites.specs.Views.{site_of}
+use Rattle.gg_elab_tree.specs.inside.TreeParts.{IsHeldFor, with_memories}
+use Rattle.gg_elab_sites.specs.inside.Views.{site_of}
 use Rattle.gg_elab_tree.proofs.memories.add_memories.Given as goal
 
 abbrev pub invariant-loop-place : goal.invariant-loop-place

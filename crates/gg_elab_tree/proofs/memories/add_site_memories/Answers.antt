@@ -7,7 +7,7 @@ use Rattle.gg_elab_sites.specs.declared.digest.OwnMemory.{OwnMemory}
 use Rattle.gg_elab_sites.proofs.FlatLemmas.{seam}
 use Rattle.gg_elab_sites.proofs.FreshLemmas.{next-new}
 use Rattle.gg_elab_tree.specs.IsTreeOf.{Pairwise, HeldMemory}
-use Rattle.gg_elab_tree.specs.TreeParts.{IsHeldFor, held_at_place}
+use Rattle.gg_elab_tree.specs.inside.TreeParts.{IsHeldFor, held_at_place}
 use Rattle.gg_elab_tree.proofs.KeptLemmas.{memories-kept}
 use Rattle.gg_elab_tree.proofs.PairwiseLemmas.{Pairwise-push}
 use Rattle.gg_elab_tree.proofs.TreePartLemmas.{memory-is-for}

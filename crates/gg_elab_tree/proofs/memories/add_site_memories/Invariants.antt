@@ -2,7 +2,7 @@ use Rattle.std.proofs.Common.{◌≡◌, ◌++◌, List, map, take}
 use Rattle.gg_flat_tree.specs.Tree.{joined}
 use Rattle.gg_elab_sites.specs.IsFlat.{memory_paths}
 use Rattle.gg_elab_tree.specs.IsTreeOf.{Pairwise, HeldMemory, site_paths, memories_of}
-use Rattle.gg_elab_tree.specs.TreeParts.{IsHeldFor, held_at_place, with_memories}
+use Rattle.gg_elab_tree.specs.inside.TreeParts.{IsHeldFor, held_at_place, with_memories}
 use Rattle.gg_elab_tree.proofs.memories.add_site_memories.Given as goal
 
 abbrev pub invariant-loop-own : goal.invariant-loop-own

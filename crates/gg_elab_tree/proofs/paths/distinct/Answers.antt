@@ -1,5 +1,5 @@
 use Rattle.std.proofs.Common.{◌≡◌, [], ◌∙◌, subst}
-use Rattle.gg_ast.specs.Names.{AreNamesOfCircuit}
+use Rattle.gg_ast.specs.inside.Names.{AreNamesOfCircuit}
 use Rattle.gg_ast.specs.Tree.{CircuitTree}
 use Rattle.gg_shape_names.specs.Repetitions.{repetitions}
 use Rattle.gg_elab_sites.specs.Known.{types_of}

@@ -6,7 +6,7 @@ use Rattle.gg_flat_tree.specs.Tree.{InstanceTree, joined}
 use Rattle.gg_elab_sites.specs.declared.stops.OwnStop.{OwnStop}
 use Rattle.gg_elab_sites.proofs.FlatLemmas.{seam}
 use Rattle.gg_elab_tree.specs.IsTreeOf.{Pairwise, HeldStop}
-use Rattle.gg_elab_tree.specs.TreeParts.{IsAskedFor, stop_at_place}
+use Rattle.gg_elab_tree.specs.inside.TreeParts.{IsAskedFor, stop_at_place}
 use Rattle.gg_elab_tree.proofs.KeptLemmas.{stops-kept}
 use Rattle.gg_elab_tree.proofs.PairwiseLemmas.{Pairwise-push}
 use Rattle.gg_elab_tree.proofs.StopPartLemmas.{stop-is-for}

@@ -1,6 +1,6 @@
 use Rattle.std.proofs.Common.{◌≡◌, ◌++◌, List, map, take}
 use Rattle.gg_elab_tree.specs.IsTreeOf.{Pairwise, HeldStop, site_paths, signal_paths}
-use Rattle.gg_elab_tree.specs.TreeParts.{IsAskedFor, stop_at_place, with_stops}
+use Rattle.gg_elab_tree.specs.inside.TreeParts.{IsAskedFor, stop_at_place, with_stops}
 use Rattle.gg_elab_tree.proofs.stops.add_site_stops.Given as goal
 
 abbrev pub invariant-loop-own : goal.invariant-loop-own

@@ -6,10 +6,10 @@ use Rattle.gg_flat.proofs.ListLemmas.{Contains-map}
 use Rattle.gg_elab_sites.specs.declared.sites.Place.{Place}
 use Rattle.gg_elab_sites.specs.declared.stops.OwnStop.{OwnStop}
 use Rattle.gg_elab_sites.specs.Known.{types_of}
-use Rattle.gg_elab_sites.specs.Views.{IsPlaceIn, site_of}
+use Rattle.gg_elab_sites.specs.inside.Views.{IsPlaceIn, site_of}
 use Rattle.gg_elab_sites.proofs.FlatLemmas.{digest-at}
 use Rattle.gg_elab_tree.specs.IsTreeOf.{Pairwise, HeldStop, held_stops}
-use Rattle.gg_elab_tree.specs.TreeParts.{IsAskedFor, stop_at_place}
+use Rattle.gg_elab_tree.specs.inside.TreeParts.{IsAskedFor, stop_at_place}
 use Rattle.gg_elab_tree.proofs.KeptLemmas.{stops-kept}
 use Rattle.gg_elab_tree.proofs.StopPartLemmas.{asked-more, stops-there}
 use Rattle.gg_elab_tree.proofs.stops.add_stops.Goals as goal

@@ -1,7 +1,7 @@
 use Rattle.std.proofs.Common.{◌≡◌, map, flat_map, take}
-use Rattle.gg_elab_sites.specs.Views.{site_of}
+use Rattle.gg_elab_sites.specs.inside.Views.{site_of}
 use Rattle.gg_elab_tree.specs.IsTreeOf.{Pairwise, held_stops}
-use Rattle.gg_elab_tree.specs.TreeParts.{IsAskedFor, with_stops}
+use Rattle.gg_elab_tree.specs.inside.TreeParts.{IsAskedFor, with_stops}
 use Rattle.gg_elab_tree.proofs.stops.add_stops.Given as goal
 
 abbrev pub invariant-loop-place : goal.invariant-loop-place

@@ -7,9 +7,9 @@ use Rattle.gg_elab_sites.specs.Sites.{Site}
 use Rattle.gg_elab_sites.specs.Flat.{flat_memories, flat_signals}
 use Rattle.gg_elab_sites.specs.IsFlat.{memory_paths}
 use Rattle.gg_elab_sites.specs.Known.{types_of}
-use Rattle.gg_elab_sites.specs.Views.{site_of}
+use Rattle.gg_elab_sites.specs.inside.Views.{site_of}
 use Rattle.gg_elab_tree.specs.IsTreeOf.{IsTreeOf, Pairwise, AreInstances, clocks_held, held_memories, held_stops}
-use Rattle.gg_elab_tree.specs.TreeParts.{IsAskedFor, IsHeldFor}
+use Rattle.gg_elab_tree.specs.inside.TreeParts.{IsAskedFor, IsHeldFor}
 use Rattle.gg_elab_sites.proofs.NameLemmas.{Differ}
 use Rattle.gg_elab_tree.proofs.ElementLemmas.{some-of}
 use Rattle.gg_elab_tree.proofs.KeptLemmas.{parts-made}

@@ -1,7 +1,7 @@
 use Rattle.std.proofs.Common.{List, sym, subst}
 use Rattle.std.specs.Prelude.{All}
 use Rattle.std.proofs.lemmas.List.Elements.{All-push}
-use Rattle.gg_fame5.specs.Lane.{Laned, IsLane}
+use Rattle.gg_fame5.specs.inside.Lane.{Laned, IsLane}
 use Rattle.gg_fame5.proofs.opening.add_lane.Goals as goal
 
 pub returns-clause-each : goal.returns-clause-each

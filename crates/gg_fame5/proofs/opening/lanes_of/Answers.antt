@@ -4,7 +4,7 @@ use Rattle.std.proofs.lemmas.Iterator.Adapters.{YieldsList-from_vec}
 use Rattle.std.proofs.lemmas.Iterator.Consumers.{YieldsList-turn, YieldsList-end}
 use Rattle.gg_flat.specs.Streams.{state_in}
 use Rattle.gg_node.specs.Machine.{no_state}
-use Rattle.gg_fame5.specs.Lane.{Laned}
+use Rattle.gg_fame5.specs.inside.Lane.{Laned}
 use Rattle.gg_fame5.proofs.OpeningLemmas.{lanes_to, lanes-count, lanes-more}
 use Rattle.gg_fame5.proofs.opening.lanes_of.Goals as goal
 

@@ -1,7 +1,7 @@
 use Rattle.std.proofs.Common.{◌≡◌, ◌≤◌, length}
 use Rattle.std.specs.Prelude.{All}
 use Rattle.std.specs.Vec.{vec_capacity}
-use Rattle.gg_fame5.specs.Lane.{IsLane}
+use Rattle.gg_fame5.specs.inside.Lane.{IsLane}
 use Rattle.gg_fame5.proofs.OpeningLemmas.{lanes_to}
 use Rattle.gg_fame5.proofs.opening.lanes_of.Given as goal
 

@@ -2,7 +2,7 @@ use Rattle.std.proofs.Common.{sym, ◌∙◌, ap, ap₂, subst, ◌<◌}
 use Rattle.gg_bits.specs.Shape.{Fits, shape, uint}
 use Rattle.gg_bits.specs.ResultType.{shape_mux}
 use Rattle.gg_bits.specs.Meaning.{value_mux}
-use Rattle.gg_flat.specs.Form.{leaf_value}
+use Rattle.gg_flat.specs.inside.Form.{leaf_value}
 use Rattle.gg_flat.proofs.FormLemmas.{does-choice, fits-as, same-kinds}
 use Rattle.gg_flat.proofs.by_form.choice_value.Goals as goal
 

@@ -2,7 +2,7 @@ use Rattle.std.proofs.Common.{sym, ◌∙◌, ap, ap₂, subst}
 use Rattle.gg_bits.specs.Shape.{Fits, shape, uint}
 use Rattle.gg_bits.specs.ResultType.{type2}
 use Rattle.gg_bits.specs.Meaning.{value2, value_const}
-use Rattle.gg_flat.specs.Form.{leaf_value}
+use Rattle.gg_flat.specs.inside.Form.{leaf_value}
 use Rattle.gg_flat.proofs.FormLemmas.{does-cut, fits-as}
 use Rattle.gg_flat.proofs.by_form.cut_value.Goals as goal
 

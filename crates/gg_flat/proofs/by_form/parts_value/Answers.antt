@@ -2,7 +2,7 @@ use Rattle.std.proofs.Common.{sym, ◌∙◌, ap₂, subst}
 use Rattle.gg_bits.specs.Shape.{Fits, shape}
 use Rattle.gg_bits.specs.ResultType.{type2}
 use Rattle.gg_bits.specs.Meaning.{value2}
-use Rattle.gg_flat.specs.Form.{part_shape, part_value}
+use Rattle.gg_flat.specs.inside.Form.{part_shape, part_value}
 use Rattle.gg_flat.proofs.FormLemmas.{does-parts}
 use Rattle.gg_flat.proofs.by_form.parts_value.Goals as goal
 

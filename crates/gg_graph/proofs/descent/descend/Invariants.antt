@@ -1,6 +1,6 @@
 use Rattle.std.proofs.Common.{[], ◌∷◌, ◌++◌}
 use Rattle.std.specs.Prelude.{sum_by}
-use Rattle.gg_graph.specs.Walk.{weight, StaysMet, IsUnderWay}
+use Rattle.gg_graph.specs.inside.Walk.{weight, StaysMet, IsUnderWay}
 use Rattle.gg_graph.proofs.descent.descend.Given as goal
 
 abbrev pub invariant-loop-next : goal.invariant-loop-next

@@ -2,7 +2,7 @@ use Rattle.std.proofs.Common.{◌≡◌, ℕ, ◌<◌, List, [], ◌∷◌, ◌+
 use Rattle.std.specs.Prelude.{sum_by}
 use Rattle.std.proofs.lemmas.List.{get_or_read}
 use Rattle.std.proofs.lemmas.List.Elements.{Contains-push}
-use Rattle.gg_graph.specs.Walk.{stage_at, weight}
+use Rattle.gg_graph.specs.inside.Walk.{stage_at, weight}
 use Rattle.gg_graph.specs.Graph.{node_at}
 use Rattle.gg_graph.specs.declared.state.Stage.{Stage}
 use Rattle.gg_graph.specs.declared.state.Stage.TheVariants.{New, Open, Done}

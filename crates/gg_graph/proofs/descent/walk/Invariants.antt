@@ -1,5 +1,5 @@
 use Rattle.std.proofs.Common.{◌≡◌, ◌≢◌, ℕ, ◌<◌, []}
-use Rattle.gg_graph.specs.Walk.{stage_at, IsUnderWay}
+use Rattle.gg_graph.specs.inside.Walk.{stage_at, IsUnderWay}
 use Rattle.gg_graph.specs.declared.state.Stage.TheVariants.{New}
 use Rattle.gg_graph.proofs.descent.walk.Given as goal
 

@@ -1,5 +1,5 @@
 use Rattle.std.proofs.Common.{◌≡◌, ℕ, ◌-◌, ◌^◌}
-use Rattle.gg_graph.specs.Walk.{stage_at}
+use Rattle.gg_graph.specs.inside.Walk.{stage_at}
 use Rattle.gg_graph.specs.declared.state.Stage.TheVariants.{Done}
 use Rattle.gg_graph.proofs.scan.next_candidate.Given as goal
 

@@ -1,4 +1,4 @@
-use Rattle.gg_lex.specs.Bytes.{is_in_class}
+use Rattle.gg_lex.specs.inside.Bytes.{is_in_class}
 use Rattle.gg_lex.proofs.Numbers.{longest_run, no_run}
 use Rattle.gg_lex.proofs.longest.some_run_len.Goals as goal
 

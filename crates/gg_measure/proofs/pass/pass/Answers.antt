@@ -1,5 +1,5 @@
 use Rattle.std.proofs.Common.{subst, sym}
-use Rattle.gg_measure.specs.Nets.{Goes}
+use Rattle.gg_measure.specs.inside.Nets.{Goes}
 use Rattle.gg_measure.proofs.GoLemmas.{goes-then, goes-falls}
 use Rattle.gg_measure.proofs.pass.pass.Goals as goal
 

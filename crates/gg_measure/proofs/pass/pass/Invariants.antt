@@ -1,4 +1,4 @@
-use Rattle.gg_measure.specs.Nets.{Goes}
+use Rattle.gg_measure.specs.inside.Nets.{Goes}
 use Rattle.gg_measure.proofs.pass.pass.Given as goal
 
 abbrev pub invariant-loop-event : goal.invariant-loop-event

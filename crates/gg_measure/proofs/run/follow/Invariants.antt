@@ -1,4 +1,4 @@
-use Rattle.gg_measure.specs.Nets.{HasRun, net_left}
+use Rattle.gg_measure.specs.inside.Nets.{HasRun, net_left}
 use Rattle.gg_measure.proofs.run.follow.Given as goal
 
 abbrev pub invariant-loop : goal.invariant-loop

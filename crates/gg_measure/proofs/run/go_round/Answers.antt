@@ -1,5 +1,5 @@
 use Rattle.std.proofs.Common.{subst}
-use Rattle.gg_measure.specs.Nets.{Goes}
+use Rattle.gg_measure.specs.inside.Nets.{Goes}
 use Rattle.gg_measure.proofs.GoLemmas.{goes-falls}
 use Rattle.gg_measure.proofs.run.go_round.Goals as goal
 

@@ -1,5 +1,5 @@
 use Rattle.std.proofs.Common.{Bool}
-use Rattle.gg_measure.specs.Nets.{Goes, net_left}
+use Rattle.gg_measure.specs.inside.Nets.{Goes, net_left}
 use Rattle.gg_measure.proofs.run.run_rounds.Given as goal
 
 abbrev pub invariant-loop : goal.invariant-loop

@@ -1,5 +1,5 @@
 use Rattle.std.proofs.Common.{length}
-use Rattle.gg_measure.specs.Turns.{NoneFound}
+use Rattle.gg_measure.specs.inside.Turns.{NoneFound}
 use Rattle.gg_measure.proofs.tells.find_event.Given as goal
 
 abbrev pub invariant-loop-c : goal.invariant-loop-c

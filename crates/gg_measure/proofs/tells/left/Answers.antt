@@ -1,8 +1,8 @@
 use Rattle.std.proofs.Common.{◌≡◌, ◌+◌, suc, length, ap, arith}
 use Rattle.gg_net.specs.Network.{frame_of}
-use Rattle.gg_net.specs.markings.LayoutOf.{layout_of}
+use Rattle.gg_net.specs.inside.LayoutOf.{layout_of}
 use Rattle.gg_net.specs.markings.Measure.{sum_below}
-use Rattle.gg_measure.specs.Nets.{wire_left, machine_left}
+use Rattle.gg_measure.specs.inside.Nets.{wire_left, machine_left}
 use Rattle.gg_measure.proofs.GoLemmas.{laid-out}
 use Rattle.gg_measure.proofs.NetLemmas.{wires-small, machines-small}
 use Rattle.gg_measure.proofs.tells.left.Goals as goal

@@ -1,6 +1,6 @@
 use Rattle.std.proofs.Common.{◌≡◌, ◌+◌, length}
 use Rattle.gg_net.specs.markings.Measure.{sum_below}
-use Rattle.gg_measure.specs.Nets.{wire_left, machine_left}
+use Rattle.gg_measure.specs.inside.Nets.{wire_left, machine_left}
 use Rattle.gg_measure.proofs.tells.left.Given as goal
 
 abbrev pub invariant-loop-c : goal.invariant-loop-c

@@ -1,7 +1,7 @@
 use Rattle.std.proofs.Common.{◌≡◌, ◌*◌, ◌∙◌, ap, arith}
 use Rattle.gg_net.specs.Network.{frame_of}
-use Rattle.gg_net.specs.markings.LayoutOf.{layout_of}
-use Rattle.gg_measure.specs.Nets.{dues_at}
+use Rattle.gg_net.specs.inside.LayoutOf.{layout_of}
+use Rattle.gg_measure.specs.inside.Nets.{dues_at}
 use Rattle.gg_measure.proofs.GoLemmas.{laid-out}
 use Rattle.gg_measure.proofs.NetLemmas.{serves-within}
 use Rattle.gg_measure.proofs.tells.machine_left.Goals as goal

@@ -1,7 +1,7 @@
 use Rattle.std.proofs.Common.{◌+◌, arith, subst, sym}
 use Rattle.gg_net.specs.declared.event.Event.TheVariants.{Fire}
 use Rattle.gg_net.specs.Network.{IsAtOut}
-use Rattle.gg_measure.specs.Turns.{HasTried}
+use Rattle.gg_measure.specs.inside.Turns.{HasTried}
 use Rattle.gg_measure.proofs.TurnLemmas.{fire-tried, all-fired, goes-outs}
 use Rattle.gg_measure.proofs.turn.fire_all.Goals as goal
 

@@ -1,7 +1,7 @@
 use Rattle.std.proofs.Common.{◌+◌, arith, subst, sym}
 use Rattle.gg_net.specs.declared.event.Event.TheVariants.{Latch}
 use Rattle.gg_net.specs.Network.{IsAtIn}
-use Rattle.gg_measure.specs.Turns.{HasTried}
+use Rattle.gg_measure.specs.inside.Turns.{HasTried}
 use Rattle.gg_measure.proofs.TurnLemmas.{latch-tried, all-latched, goes-ins}
 use Rattle.gg_measure.proofs.turn.latch_all.Goals as goal
 

@@ -1,6 +1,6 @@
 use Rattle.gg_net.specs.declared.event.Event.TheVariants.{Latch}
 use Rattle.gg_net.specs.Network.{IsAtIn}
-use Rattle.gg_measure.specs.Turns.{HasTried}
+use Rattle.gg_measure.specs.inside.Turns.{HasTried}
 use Rattle.gg_measure.proofs.turn.latch_all.Given as goal
 
 abbrev pub invariant-loop-place : goal.invariant-loop-place

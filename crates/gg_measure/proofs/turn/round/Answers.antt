@@ -1,5 +1,5 @@
 use Rattle.std.proofs.Common.{◌+◌, arith, subst, sym}
-use Rattle.gg_measure.specs.Turns.{HasGoneRound}
+use Rattle.gg_measure.specs.inside.Turns.{HasGoneRound}
 use Rattle.gg_measure.proofs.TurnLemmas.{more-round, goes-count}
 use Rattle.gg_measure.proofs.turn.round.Goals as goal
 

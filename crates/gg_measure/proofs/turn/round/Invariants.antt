@@ -1,4 +1,4 @@
-use Rattle.gg_measure.specs.Turns.{HasGoneRound}
+use Rattle.gg_measure.specs.inside.Turns.{HasGoneRound}
 use Rattle.gg_measure.proofs.turn.round.Given as goal
 
 abbrev pub invariant-loop-machine : goal.invariant-loop-machine

@@ -1,4 +1,4 @@
-use Rattle.gg_measure.specs.Turns.{HasServedOne}
+use Rattle.gg_measure.specs.inside.Turns.{HasServedOne}
 use Rattle.gg_measure.proofs.TurnLemmas.{served-more}
 use Rattle.gg_measure.proofs.turn.serve_all.Goals as goal
 

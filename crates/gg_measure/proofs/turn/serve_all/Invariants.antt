@@ -1,4 +1,4 @@
-use Rattle.gg_measure.specs.Nets.{IsAtWork, Goes, net_left}
+use Rattle.gg_measure.specs.inside.Nets.{IsAtWork, Goes, net_left}
 use Rattle.gg_measure.proofs.turn.serve_all.Given as goal
 
 abbrev pub invariant-loop-moved : goal.invariant-loop-moved

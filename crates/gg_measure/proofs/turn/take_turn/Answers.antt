@@ -1,5 +1,5 @@
 use Rattle.std.proofs.Common.{◌||◌, ◌∙◌, ap, subst, sym}
-use Rattle.gg_measure.specs.Turns.{HadTurn}
+use Rattle.gg_measure.specs.inside.Turns.{HadTurn}
 use Rattle.gg_measure.proofs.TurnLemmas.{whole-turn}
 use Rattle.gg_measure.proofs.turn.take_turn.Goals as goal
 

@@ -1,5 +1,5 @@
 use Rattle.std.proofs.Common.{length, ap, sym, ◌∙◌}
-use Rattle.gg_memunit.specs.MemoryUnit.{count_by}
+use Rattle.gg_memunit.specs.inside.MemoryUnit.{count_by}
 use Rattle.gg_memunit.proofs.PortLemmas.{count_ports}
 use Rattle.gg_memunit.proofs.ports.count.Goals as goal
 

@@ -1,6 +1,6 @@
 use Rattle.std.proofs.Common.{◌<◌, Some, length, ap, sym, ◌∙◌, arith}
-use Rattle.gg_node.specs.Machine.{port_number}
-use Rattle.gg_memunit.specs.MemoryUnit.{count_by}
+use Rattle.gg_node.specs.inside.Machine.{port_number}
+use Rattle.gg_memunit.specs.inside.MemoryUnit.{count_by}
 use Rattle.gg_memunit.proofs.PortLemmas.{number_at, count_ports, none_past}
 use Rattle.gg_memunit.proofs.ports.due_after.Goals as goal
 

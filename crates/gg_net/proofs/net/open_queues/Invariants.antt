@@ -1,4 +1,4 @@
-use Rattle.gg_net.specs.Net.{AreOpen}
+use Rattle.gg_net.specs.inside.Net.{AreOpen}
 use Rattle.gg_net.proofs.net.open_queues.Given as goal
 
 abbrev pub invariant-loop-wire : goal.invariant-loop-wire

@@ -2,7 +2,7 @@ use Rattle.std.proofs.Common.{◌≡◌, ◌<◌, length, map, sym, ◌∙◌, a
 use Rattle.std.specs.Prelude.{All}
 use Rattle.gg_flat.specs.Circuit.{FlatCircuit}
 use Rattle.gg_flat.specs.Line.{value_at}
-use Rattle.gg_part.specs.Building.{AreRegisters, AreMemories}
+use Rattle.gg_part.specs.inside.Building.{AreRegisters, AreMemories}
 use Rattle.gg_part.proofs.BuildLemmas.{AreSignals-same}
 use Rattle.gg_part.proofs.PartLemmas.{IsPart-made}
 use Rattle.gg_part.proofs.build.add_all.Goals as goal

@@ -3,7 +3,7 @@ use Rattle.std.specs.Prelude.{Contains, Option}
 use Rattle.gg_flat.specs.declared.memory.Memory.{Memory}
 use Rattle.gg_flat.specs.WellFormed.{IsClockedMemory}
 use Rattle.gg_flat_tree.specs.Scoped.{memory_fields}
-use Rattle.gg_part.specs.Clocking.{LeadsTo, PortsFollow, clocks_of_ports}
+use Rattle.gg_part.specs.inside.Clocking.{LeadsTo, PortsFollow, clocks_of_ports}
 use Rattle.gg_part.specs.Part.{MemoryBelow, in_whole}
 use Rattle.gg_part.proofs.BackLemmas.{LeadsBack, table-back}
 use Rattle.gg_part.proofs.LocalLemmas.{memory-renamed, memory-below, memory-clocked, memory-follows}

@@ -1,6 +1,6 @@
 use Rattle.std.proofs.Common.{◌≡◌}
-use Rattle.gg_part.specs.Building.{AreMemories}
-use Rattle.gg_part.specs.Clocking.{MemoriesFollow}
+use Rattle.gg_part.specs.inside.Building.{AreMemories}
+use Rattle.gg_part.specs.inside.Clocking.{MemoriesFollow}
 use Rattle.gg_part.proofs.build.add_memories.Given as goal
 
 abbrev pub invariant-loop-number : goal.invariant-loop-number

@@ -3,7 +3,7 @@ use Rattle.std.specs.Prelude.{Contains, Option}
 use Rattle.gg_flat.specs.declared.piece.Register.{Register}
 use Rattle.gg_flat.specs.WellFormed.{IsClock}
 use Rattle.gg_flat.specs.Named.{RegisterNamesOnly}
-use Rattle.gg_part.specs.Local.{own_by}
+use Rattle.gg_part.specs.inside.Local.{own_by}
 use Rattle.gg_part.specs.Part.{RegisterBelow, in_whole}
 use Rattle.gg_part.proofs.BackLemmas.{LeadsBack, table-back, register-back, register-below}
 use Rattle.gg_part.proofs.ClockLemmas.{leads-same}

@@ -1,6 +1,6 @@
 use Rattle.std.proofs.Common.{◌≡◌}
-use Rattle.gg_part.specs.Building.{AreRegisters}
-use Rattle.gg_part.specs.Clocking.{RegistersFollow}
+use Rattle.gg_part.specs.inside.Building.{AreRegisters}
+use Rattle.gg_part.specs.inside.Clocking.{RegistersFollow}
 use Rattle.gg_part.proofs.build.add_registers.Given as goal
 
 abbrev pub invariant-loop-number : goal.invariant-loop-number

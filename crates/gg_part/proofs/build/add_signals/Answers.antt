@@ -3,7 +3,7 @@ use Rattle.std.specs.Prelude.{All, Contains}
 use Rattle.gg_flat_tree.specs.Tree.{path_at}
 use Rattle.gg_flat.specs.Line.{value_at}
 use Rattle.gg_flat.specs.Circuit.{no_circuit}
-use Rattle.gg_part.specs.Building.{IsAdded}
+use Rattle.gg_part.specs.inside.Building.{IsAdded}
 use Rattle.gg_part.proofs.FrameLemmas.{length-once}
 use Rattle.gg_part.proofs.BuildLemmas.{AreSignals-more, path-fresh, only-signals}
 use Rattle.gg_part.proofs.build.add_signals.Goals as goal

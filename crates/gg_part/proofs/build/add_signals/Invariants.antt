@@ -1,6 +1,6 @@
 use Rattle.std.proofs.Common.{◌≡◌}
 use Rattle.gg_flat.specs.Circuit.{no_circuit}
-use Rattle.gg_part.specs.Building.{AreSignals}
+use Rattle.gg_part.specs.inside.Building.{AreSignals}
 use Rattle.gg_part.proofs.build.add_signals.Given as goal
 
 abbrev pub invariant-loop-signal : goal.invariant-loop-signal

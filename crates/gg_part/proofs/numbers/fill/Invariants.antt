@@ -1,5 +1,5 @@
 use Rattle.std.proofs.Common.{◌≡◌, length}
-use Rattle.gg_part.specs.Numbers.{ArePlaces}
+use Rattle.gg_part.specs.inside.Numbers.{ArePlaces}
 use Rattle.gg_part.proofs.numbers.fill.Given as goal
 
 abbrev pub invariant-loop-place : goal.invariant-loop-place

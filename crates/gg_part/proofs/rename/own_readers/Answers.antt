@@ -3,7 +3,7 @@ use Rattle.std.specs.Prelude.{Option}
 use Rattle.gg_flat.specs.declared.memory.Reader.{Reader}
 use Rattle.gg_flat.specs.Line.{value_at}
 use Rattle.gg_flat.specs.Renaming.{renamed_reader as reader_by}
-use Rattle.gg_part.specs.Local.{own_by}
+use Rattle.gg_part.specs.inside.Local.{own_by}
 use Rattle.gg_part.proofs.LocalLemmas.{grown-by}
 use Rattle.gg_part.proofs.rename.own_readers.Goals as goal
 

@@ -3,7 +3,7 @@ use Rattle.std.specs.Prelude.{Option}
 use Rattle.gg_flat.specs.declared.memory.Writer.{Writer}
 use Rattle.gg_flat.specs.Line.{value_at}
 use Rattle.gg_flat.specs.Renaming.{renamed_writer as writer_by}
-use Rattle.gg_part.specs.Local.{own_by}
+use Rattle.gg_part.specs.inside.Local.{own_by}
 use Rattle.gg_part.proofs.LocalLemmas.{grown-by}
 use Rattle.gg_part.proofs.rename.own_writers.Goals as goal
 

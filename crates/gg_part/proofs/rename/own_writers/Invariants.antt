@@ -1,6 +1,6 @@
 use Rattle.std.proofs.Common.{◌≡◌, take}
 use Rattle.gg_flat.specs.Line.{value_at}
-use Rattle.gg_part.specs.Local.{own_writers}
+use Rattle.gg_part.specs.inside.Local.{own_writers}
 use Rattle.gg_part.proofs.rename.own_writers.Given as goal
 
 abbrev pub invariant-loop-place : goal.invariant-loop-place

@@ -3,7 +3,7 @@ use Rattle.gg_bits.specs.Shape.{Shape, shape}
 use Rattle.gg_flat.specs.declared.piece.Driver.{Driver}
 use Rattle.gg_flat.specs.Circuit.{signal_shapes, driver_at}
 use Rattle.gg_flat.specs.Line.{shape_at}
-use Rattle.gg_flat.specs.Settled.{HasSource}
+use Rattle.gg_flat.specs.inside.Settled.{HasSource}
 use Rattle.gg_flat.proofs.TypedLemmas.{IsSignal-read, HasSource-from}
 use Rattle.gg_program.specs.Slots.{inputs_in}
 use Rattle.gg_program.proofs.RightLemmas.{inner-source, IsInputs-values}

@@ -2,8 +2,8 @@ use Rattle.std.proofs.Common.{[], ◌∷◌, sym, subst}
 use Rattle.std.specs.Prelude.{IfSome}
 use Rattle.gg_ast.specs.Row.{numbered}
 use Rattle.gg_read_row.specs.declared.row.LineRow.{LineRow}
-use Rattle.gg_read_row.specs.LineRows.{row_of}
-use Rattle.gg_read.specs.Stages.{stage_place, Advances}
+use Rattle.gg_read_row.specs.inside.LineRows.{row_of}
+use Rattle.gg_read.specs.inside.Stages.{stage_place, Advances}
 use Rattle.gg_read.specs.Text.{place_after}
 use Rattle.gg_read.proofs.Builds.{statement_advances}
 use Rattle.gg_read.proofs.stage.advance.Goals as goal

@@ -1,7 +1,7 @@
 use Rattle.std.proofs.Common.{List, subst, refl}
 use Rattle.gg_ast.specs.declared.statement.Reset.{Reset}
 use Rattle.gg_ast.specs.Row.{Numbered}
-use Rattle.gg_read.specs.Stages.{stage_place, Advances}
+use Rattle.gg_read.specs.inside.Stages.{stage_place, Advances}
 use Rattle.gg_read.specs.Text.{after_statement}
 use Rattle.gg_read.proofs.Builds.{inline_rows}
 use Rattle.gg_read.proofs.stage.register.Goals as goal

@@ -1,6 +1,6 @@
 use Rattle.std.proofs.Common.{List, subst}
 use Rattle.gg_lex.specs.declared.token.Tok.{Tok}
-use Rattle.gg_read.specs.Stages.{line_of, IsMissed}
+use Rattle.gg_read.specs.inside.Stages.{line_of, IsMissed}
 use Rattle.gg_read.proofs.TextSteps.{blank_step, row_step, miss_step}
 use Rattle.gg_read.proofs.text.next_stage.Goals as goal
 

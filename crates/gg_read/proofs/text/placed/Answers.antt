@@ -1,5 +1,5 @@
-use Rattle.gg_read_row.specs.LineRows.{row_of}
-use Rattle.gg_read.specs.Stages.{line_of}
+use Rattle.gg_read_row.specs.inside.LineRows.{row_of}
+use Rattle.gg_read.specs.inside.Stages.{line_of}
 use Rattle.gg_read.proofs.TextSteps.{placed_held}
 use Rattle.gg_read.proofs.text.placed.Goals as goal
 

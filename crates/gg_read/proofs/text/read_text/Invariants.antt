@@ -1,6 +1,6 @@
 use Rattle.std.proofs.Common.{◌≡◌, ◌+◌, length, take}
 use Rattle.std.specs.Str.Lines.{lines}
-use Rattle.gg_read.specs.Stages.{IsStage, HasRead}
+use Rattle.gg_read.specs.inside.Stages.{IsStage, HasRead}
 use Rattle.gg_read.proofs.text.read_text.Given as goal
 
 abbrev pub invariant-loop-line : goal.invariant-loop-line

@@ -1,8 +1,8 @@
 use Rattle.std.proofs.Common.{◌≡◌, List, false, subst}
 use Rattle.std.specs.Prelude.{is_some}
 use Rattle.gg_lex.specs.declared.token.Tok.{Tok}
-use Rattle.gg_read_row.specs.LineRows.{TellsRow}
-use Rattle.gg_read.specs.Stages.{line_of}
+use Rattle.gg_read_row.specs.inside.LineRows.{TellsRow}
+use Rattle.gg_read.specs.inside.Stages.{line_of}
 use Rattle.gg_read.specs.Text.{LineTokens, IsTooDeep}
 use Rattle.gg_read.proofs.TextSteps.{none_there, row_found}
 use Rattle.gg_read.proofs.text.whole_row.Goals as goal

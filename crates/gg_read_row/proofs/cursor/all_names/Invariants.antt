@@ -1,5 +1,5 @@
 use Rattle.std.proofs.Common.{◌≡◌, [], drop}
-use Rattle.gg_read_row.specs.Reading.{more_names_at}
+use Rattle.gg_read_row.specs.inside.Reading.{more_names_at}
 use Rattle.gg_read_row.proofs.cursor.all_names.Given as goal
 
 abbrev pub invariant-loop-token : goal.invariant-loop-token

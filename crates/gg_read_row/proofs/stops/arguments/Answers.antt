@@ -1,6 +1,6 @@
 -- Each turn of the loop takes one of the arguments that may still come.
 use Rattle.std.proofs.Common.{◌≡◌, ◌<◌, ◌+◌, ◌-◌, ◌∙◌, Ok, true, false, sym, ap, subst, arith}
-use Rattle.gg_read_row.specs.Reading.{Misses, arguments_at, TakesArgument}
+use Rattle.gg_read_row.specs.inside.Reading.{Misses, arguments_at, TakesArgument}
 use Rattle.gg_read_row.proofs.Depth.{arguments_at-level}
 use Rattle.gg_read_row.proofs.stops.arguments.Goals as goal
 

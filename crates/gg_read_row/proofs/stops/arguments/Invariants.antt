@@ -1,5 +1,5 @@
 use Rattle.std.proofs.Common.{◌≡◌, ◌-◌, [], length}
-use Rattle.gg_read_row.specs.Reading.{arguments_at}
+use Rattle.gg_read_row.specs.inside.Reading.{arguments_at}
 use Rattle.gg_read_row.proofs.stops.arguments.Given as goal
 
 abbrev pub invariant-loop-turn : goal.invariant-loop-turn

@@ -1,6 +1,6 @@
 use Rattle.std.proofs.Common.{subst, sym}
 use Rattle.std.proofs.lemmas.Result.{on_ok_weaker}
-use Rattle.gg_replay.specs.Log.{AreFronts}
+use Rattle.gg_replay.specs.inside.Log.{AreFronts}
 use Rattle.gg_replay.proofs.FrontLemmas.{newest-added}
 use Rattle.gg_replay.proofs.steps.add_newest.Goals as goal
 

@@ -1,6 +1,6 @@
 use Rattle.std.proofs.Common.{take}
 use Rattle.gg_net.specs.markings.Steps.{Steps}
-use Rattle.gg_replay.specs.Log.{AreFronts}
+use Rattle.gg_replay.specs.inside.Log.{AreFronts}
 use Rattle.gg_replay.proofs.steps.replay.Given as goal
 
 abbrev pub invariant-loop-i : goal.invariant-loop-i

@@ -3,8 +3,9 @@ use Rattle.std.specs.Io.KnownBytes.{append_known}
 use Rattle.gg_cut_reference.specs.whole.Whole.{plan_circuit}
 use Rattle.gg_io.proofs.EndingLemmas.{exit-is}
 use Rattle.gg_io.proofs.WritingLemmas.{none-front, on-then}
-use Rattle.gg_rows.specs.Rows.{AreTraysOf}
-use Rattle.gg_rows.specs.Printed.{RowForm, plan_stops, rows_since, shown_columns}
+use Rattle.gg_rows.specs.inside.Rows.{AreTraysOf}
+use Rattle.gg_rows.specs.inside.Printed.{RowForm, rows_since, shown_columns}
+use Rattle.gg_rows.specs.Printed.{plan_stops}
 use Rattle.gg_rows.proofs.PrintLemmas.{header-stop, sink-went, stop-as}
 use Rattle.gg_rows.proofs.PrintedLemmas.{ran-kept, ran-text}
 use Rattle.gg_rows.proofs.printing.print_from.Goals as goal

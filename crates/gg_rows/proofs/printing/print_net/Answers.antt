@@ -1,16 +1,18 @@
 use Rattle.std.proofs.Common.{◌≡◌, ◌-◌, refl, sym, ap, ◌∙◌, subst, arith}
 use Rattle.std.proofs.lemmas.Result.{IfOk-weaker}
 use Rattle.gg_cut_plan.proofs.KnownLemmas.{parents-before}
-use Rattle.gg_flat_tree.specs.Clocked.{AreParentsBefore}
-use Rattle.gg_build.specs.Build.{run_from_zeros, run_token}
+use Rattle.gg_flat_tree.specs.inside.Clocked.{AreParentsBefore}
+use Rattle.gg_build.specs.inside.Build.{run_from_zeros}
+use Rattle.gg_build.specs.Build.{run_token}
 use Rattle.gg_cut_plan.specs.Seated.{first_kept_tray, plan_bridges}
 use Rattle.gg_order.specs.Design.{Ordered}
 use Rattle.gg_cut_reference.specs.Follows.{plan_start}
 use Rattle.gg_cut_reference.specs.whole.Whole.{plan_circuit}
-use Rattle.gg_io.specs.Endings.{PrintsOn}
+use Rattle.gg_io.specs.inside.Endings.{PrintsOn}
 use Rattle.gg_io.proofs.EndingLemmas.{exit-is}
 use Rattle.gg_io.proofs.WritingLemmas.{none-front}
-use Rattle.gg_rows.specs.Printed.{RowsAreKept, out_columns, plan_stops}
+use Rattle.gg_rows.specs.Printed.{RowsAreKept, plan_stops}
+use Rattle.gg_rows.specs.inside.Printed.{out_columns}
 use Rattle.gg_rows.proofs.OpeningLemmas.{from-zeros}
 use Rattle.gg_rows.proofs.OutputLemmas.{opening-is-net, outs-few, trays-told}
 use Rattle.gg_rows.proofs.PrintLemmas.{rows-whole, text-whole}

@@ -1,7 +1,7 @@
 use Rattle.std.proofs.Common.{◌≡◌, ℕ, ◌+◌, ◌<◌, length, ◌∙◌, arith}
 use Rattle.gg_flat.specs.Line.{value_at}
 use Rattle.gg_node.specs.Machine.{machine_at}
-use Rattle.gg_rows.specs.Rows.{told_value}
+use Rattle.gg_rows.specs.inside.Rows.{told_value}
 use Rattle.gg_rows.proofs.OutputLemmas.{outputs-are}
 use Rattle.gg_rows.proofs.rows.output_values.Goals as goal
 

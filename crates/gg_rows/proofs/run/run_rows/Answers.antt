@@ -1,7 +1,7 @@
 use Rattle.std.proofs.Common.{◌≡◌, ◌<◌, ◌≤◌, Ok, false, length, refl, sym, ap, ◌∙◌, subst, arith}
 use Rattle.gg_io.proofs.EndingLemmas.{exit-is}
-use Rattle.gg_rows.specs.Taken.{answer_of}
-use Rattle.gg_rows.specs.Window.{window_end}
+use Rattle.gg_rows.specs.inside.Taken.{answer_of}
+use Rattle.gg_rows.specs.inside.Window.{window_end}
 use Rattle.gg_rows.proofs.FrameLemmas.{same-end, same-machines}
 use Rattle.gg_rows.proofs.RunLemmas.{ran-all, ran-ends, ran-next, ran-out, ran-start, ran-wants}
 use Rattle.gg_rows.proofs.TakenLemmas.{went-on-so, went-then, went-wants}

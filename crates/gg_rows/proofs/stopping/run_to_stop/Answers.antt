@@ -1,8 +1,8 @@
 use Rattle.std.proofs.Common.{length, refl, ap, arith}
-use Rattle.gg_build.specs.Build.{run_from_zeros}
+use Rattle.gg_build.specs.inside.Build.{run_from_zeros}
 use Rattle.gg_cut_reference.specs.Follows.{plan_start}
 use Rattle.gg_io.proofs.EndingLemmas.{exit-is}
-use Rattle.gg_rows.specs.Rows.{AreTraysOf}
+use Rattle.gg_rows.specs.inside.Rows.{AreTraysOf}
 use Rattle.gg_rows.proofs.OpeningLemmas.{from-zeros}
 use Rattle.gg_rows.proofs.StopLemmas.{stops-for-memory}
 use Rattle.gg_rows.proofs.StoppedLemmas.{stopped-first, stopped-none}

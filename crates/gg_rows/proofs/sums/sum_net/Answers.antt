@@ -1,8 +1,9 @@
 use Rattle.std.proofs.Common.{◌≤◌, ◌≡◌, ◌-◌, length, refl, ap, arith}
-use Rattle.gg_build.specs.Build.{run_from_zeros, run_token}
+use Rattle.gg_build.specs.inside.Build.{run_from_zeros}
+use Rattle.gg_build.specs.Build.{run_token}
 use Rattle.gg_cut_reference.specs.Follows.{plan_start}
 use Rattle.gg_cut_reference.specs.whole.Whole.{plan_circuit}
-use Rattle.gg_rows.specs.Rows.{AreTraysOf}
+use Rattle.gg_rows.specs.inside.Rows.{AreTraysOf}
 use Rattle.gg_rows.proofs.FoldLemmas.{took-folds}
 use Rattle.gg_rows.proofs.OpeningLemmas.{from-zeros}
 use Rattle.gg_rows.proofs.OutputLemmas.{opening-is-net, outs-few, trays-told}

@@ -1,7 +1,7 @@
 use Rattle.std.proofs.Common.{◌≡◌, ◌+◌}
 use Rattle.std.specs.Prelude.{drop}
 use Rattle.std.specs.List.{prefix_len}
-use Rattle.gg_rows.specs.Trays.{is_inner}
+use Rattle.gg_rows.specs.inside.Trays.{is_inner}
 use Rattle.gg_rows.proofs.trays.inner_len.Given as goal
 
 abbrev pub invariant-loop-number : goal.invariant-loop-number

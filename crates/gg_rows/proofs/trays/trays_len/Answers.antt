@@ -1,7 +1,7 @@
 use Rattle.std.proofs.Common.{◌≡◌, ◌+◌, ◌<◌, suc, length, sym, ap, ◌∙◌, arith}
 use Rattle.std.specs.Prelude.{drop}
 use Rattle.std.specs.List.{prefix_len}
-use Rattle.gg_rows.specs.Trays.{is_tray}
+use Rattle.gg_rows.specs.inside.Trays.{is_tray}
 use Rattle.gg_rows.proofs.CountLemmas.{len-ends, len-more, len-none}
 use Rattle.gg_rows.proofs.trays.trays_len.Goals as goal
 

@@ -3,7 +3,7 @@ use Rattle.std.proofs.lemmas.List.{length-drop, take_all}
 use Rattle.std.specs.Prelude.{drop}
 use Rattle.std.specs.List.{prefix_len}
 use Rattle.gg_cut_plan.specs.declared.plan.Machine.{Machine}
-use Rattle.gg_rows.specs.Trays.{is_inner, is_tray}
+use Rattle.gg_rows.specs.inside.Trays.{is_inner, is_tray}
 use Rattle.gg_rows.proofs.CountLemmas.{inner-count, tray-count}
 use Rattle.gg_rows.proofs.trays.trays_of.Goals as goal
 

@@ -1,6 +1,6 @@
 use Rattle.std.proofs.Common.{◌≡◌}
 use Rattle.gg_shape.specs.Shape.{in_modules, second_connections}
-use Rattle.gg_shape.specs.Told.{TellsFirst}
+use Rattle.gg_shape.specs.inside.Told.{TellsFirst}
 use Rattle.gg_shape.proofs.FlatLemmas.{rest}
 use Rattle.gg_shape.proofs.connections.check_second.Given as goal
 

@@ -2,7 +2,7 @@ use Rattle.std.proofs.Common.{take, rules}
 use Rattle.gg_shape_names.specs.Namespace.{scope_of}
 use Rattle.gg_shape_names.proofs.AlongLemmas.{left-more}
 use Rattle.gg_shape.specs.Shape.{second_by}
-use Rattle.gg_shape.specs.Told.{module_of}
+use Rattle.gg_shape.specs.inside.Told.{module_of}
 use Rattle.gg_shape.proofs.ConnectedLemmas.{told-next}
 use Rattle.gg_shape.proofs.FlatLemmas.{along-refused}
 use Rattle.gg_shape.proofs.connections.connected_by.Goals as goal

@@ -1,7 +1,7 @@
 use Rattle.std.proofs.Common.{◌≡◌, ◌++◌, ◌∷◌, [], sym, ap, ◌∙◌}
 use Rattle.std.proofs.lemmas.Result.{on_ok_weaker}
 use Rattle.gg_ast.specs.declared.expression.Reference.{Reference}
-use Rattle.gg_shape.specs.Told.{is_among, reference_of}
+use Rattle.gg_shape.specs.inside.Told.{is_among, reference_of}
 use Rattle.gg_shape.proofs.ConnectedLemmas.{told-more}
 use Rattle.gg_shape.proofs.connections.mark.Goals as goal
 

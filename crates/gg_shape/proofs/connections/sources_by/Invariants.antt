@@ -2,7 +2,7 @@ use Rattle.std.proofs.Common.{◌≡◌}
 use Rattle.std.specs.List.{flat_map}
 use Rattle.gg_shape_names.specs.Namespace.{scope_of}
 use Rattle.gg_shape.specs.Shape.{source_by}
-use Rattle.gg_shape.specs.Told.{module_of}
+use Rattle.gg_shape.specs.inside.Told.{module_of}
 use Rattle.gg_shape.proofs.FlatLemmas.{rest}
 use Rattle.gg_shape.proofs.connections.sources_by.Given as goal
 

@@ -2,7 +2,7 @@ use Rattle.std.proofs.Common.{rules, ◌≡◌, ◌<◌, ◌∙◌, List, length
 use Rattle.std.specs.List.{flat_map}
 use Rattle.gg_ast.specs.declared.statement.Stmt.{Stmt}
 use Rattle.gg_ast.specs.Tree.{ModuleTree}
-use Rattle.gg_shape.specs.Faults.{Refuses}
+use Rattle.gg_shape.specs.inside.Faults.{Refuses}
 use Rattle.gg_shape.specs.Memories.{wrong_by, wrong_in_module}
 use Rattle.gg_shape.proofs.FlatLemmas.{rest-refused}
 use Rattle.gg_shape.proofs.memories.check_memories.Goals as goal

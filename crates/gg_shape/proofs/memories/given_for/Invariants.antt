@@ -1,5 +1,5 @@
 use Rattle.std.proofs.Common.{◌≡◌, take}
-use Rattle.gg_shape.specs.Counted.{count_of}
+use Rattle.gg_shape.specs.inside.Counted.{count_of}
 use Rattle.gg_shape.specs.Memories.{given}
 use Rattle.gg_shape.proofs.memories.given_for.Given as goal
 

@@ -1,7 +1,7 @@
 use Rattle.std.proofs.Common.{◌≡◌, List, ◌<◌, length, get_or, ap, subst, ◌∙◌, arith, rules}
 use Rattle.gg_ast.specs.declared.statement.Stmt.{Stmt}
 use Rattle.gg_shape.specs.Shape.{unknown_by}
-use Rattle.gg_shape.specs.Told.{module_of}
+use Rattle.gg_shape.specs.inside.Told.{module_of}
 use Rattle.gg_shape_names.proofs.AlongLemmas.{left-more}
 use Rattle.gg_shape.proofs.FlatLemmas.{along-refused}
 use Rattle.gg_shape.proofs.PlaceLemmas.{stands}

@@ -3,7 +3,7 @@ use Rattle.gg_shape_names.specs.Namespace.{names_after}
 use Rattle.gg_shape_names.proofs.AlongLemmas.{left}
 use Rattle.gg_shape.specs.Faults.{along}
 use Rattle.gg_shape.specs.Shape.{unknown_by}
-use Rattle.gg_shape.specs.Told.{module_of}
+use Rattle.gg_shape.specs.inside.Told.{module_of}
 use Rattle.gg_shape.proofs.references.check_statements.Given as goal
 
 abbrev pub invariant-loop-place : goal.invariant-loop-place

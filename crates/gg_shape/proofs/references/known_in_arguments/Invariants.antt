@@ -1,6 +1,6 @@
 use Rattle.std.proofs.Common.{◌≡◌, drop}
 use Rattle.gg_shape.specs.Shape.{unknown_in_arguments}
-use Rattle.gg_shape.specs.Told.{scope_before}
+use Rattle.gg_shape.specs.inside.Told.{scope_before}
 use Rattle.gg_shape.proofs.references.known_in_arguments.Given as goal
 
 abbrev pub invariant-loop-argument : goal.invariant-loop-argument

@@ -1,7 +1,7 @@
 use Rattle.std.proofs.Common.{◌≡◌, List, map, get_or, sym, ap, subst, ◌∙◌}
 use Rattle.gg_ast.specs.declared.module.Port.{Port}
-use Rattle.gg_shape.specs.Faults.{Answers}
-use Rattle.gg_shape.specs.Told.{is_among, inputs_of}
+use Rattle.gg_shape.specs.inside.Faults.{Answers}
+use Rattle.gg_shape.specs.inside.Told.{is_among, inputs_of}
 use Rattle.gg_shape.proofs.UnconnectedLemmas.{instance-told, instance-none, place-told}
 use Rattle.gg_shape.proofs.unconnected.check_instance.Goals as goal
 

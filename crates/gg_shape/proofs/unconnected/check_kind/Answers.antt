@@ -1,5 +1,5 @@
 use Rattle.std.proofs.Common.{rules}
-use Rattle.gg_shape.specs.Told.{is_among, unconnected_in_field}
+use Rattle.gg_shape.specs.inside.Told.{is_among, unconnected_in_field}
 use Rattle.gg_shape.proofs.FlatLemmas.{rest-refused}
 use Rattle.gg_shape.proofs.unconnected.check_kind.Goals as goal
 

@@ -1,6 +1,6 @@
 use Rattle.std.proofs.Common.{◌≡◌}
 use Rattle.std.specs.List.{flat_map}
-use Rattle.gg_shape.specs.Told.{is_among, unconnected_in_field}
+use Rattle.gg_shape.specs.inside.Told.{is_among, unconnected_in_field}
 use Rattle.gg_shape.proofs.FlatLemmas.{rest}
 use Rattle.gg_shape.proofs.unconnected.check_kind.Given as goal
 

@@ -1,8 +1,8 @@
 use Rattle.std.proofs.Common.{sym, subst, rules}
 use Rattle.std.specs.List.{flat_map}
 use Rattle.gg_shape_names.specs.declared.role.PortKind.TheVariants.{Reader, Writer}
-use Rattle.gg_shape.specs.Faults.{Answers, Refuses}
-use Rattle.gg_shape.specs.Told.{is_among, unconnected_in_field}
+use Rattle.gg_shape.specs.inside.Faults.{Answers, Refuses}
+use Rattle.gg_shape.specs.inside.Told.{is_among, unconnected_in_field}
 use Rattle.gg_shape.proofs.FlatLemmas.{refused_first, decided_next}
 use Rattle.gg_shape.proofs.UnconnectedLemmas.{memory-told}
 use Rattle.gg_shape.proofs.unconnected.check_memory.Goals as goal

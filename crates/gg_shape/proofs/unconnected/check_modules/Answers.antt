@@ -1,6 +1,6 @@
 use Rattle.std.proofs.Common.{◌≡◌, List, ◌<◌, length, get_or, sym, ap, subst, ◌∙◌, rules}
 use Rattle.gg_ast.specs.Tree.{ModuleTree}
-use Rattle.gg_shape.specs.Faults.{Refuses}
+use Rattle.gg_shape.specs.inside.Faults.{Refuses}
 use Rattle.gg_shape.specs.Shape.{unconnected_sinks}
 use Rattle.gg_shape.proofs.FlatLemmas.{module-more, module-refused}
 use Rattle.gg_shape.proofs.PlaceLemmas.{sinks-at}

@@ -1,7 +1,7 @@
 use Rattle.std.proofs.Common.{◌≡◌}
 use Rattle.std.specs.List.{flat_map}
 use Rattle.gg_shape.specs.Shape.{unconnected_port}
-use Rattle.gg_shape.specs.Told.{is_among}
+use Rattle.gg_shape.specs.inside.Told.{is_among}
 use Rattle.gg_shape.proofs.FlatLemmas.{rest}
 use Rattle.gg_shape.proofs.unconnected.check_ports.Given as goal
 

@@ -1,6 +1,6 @@
 use Rattle.std.proofs.Common.{rules}
 use Rattle.gg_shape.proofs.FlatLemmas.{rest-refused}
-use Rattle.gg_shape.specs.Told.{is_among}
+use Rattle.gg_shape.specs.inside.Told.{is_among}
 use Rattle.gg_shape.specs.Shape.{unconnected_by}
 use Rattle.gg_shape.proofs.unconnected.check_statements.Goals as goal
 

@@ -1,7 +1,7 @@
 use Rattle.std.proofs.Common.{◌≡◌, None, Some, sym, ap, ◌∙◌, lt-ltb, le-ltb, if◌then◌else◌}
 use Rattle.gg_ast.specs.Places.{place_of}
 use Rattle.gg_shape_names.specs.Scope.{first_name}
-use Rattle.gg_shape_names.specs.Tables.{found, names_told}
+use Rattle.gg_shape_names.specs.inside.Tables.{found, names_told}
 use Rattle.gg_shape_names.proofs.TableLemmas.{if_before}
 use Rattle.gg_shape_names.proofs.FindLemmas.{table-at, meaning-before, meaning-found}
 use Rattle.gg_shape_names.proofs.find.role_before_in.Goals as goal

@@ -1,6 +1,6 @@
 use Rattle.std.proofs.Common.{sym, ap, ◌∙◌}
 use Rattle.gg_shape_names.specs.Scope.{first_name}
-use Rattle.gg_shape_names.specs.Tables.{through_found}
+use Rattle.gg_shape_names.specs.inside.Tables.{through_found}
 use Rattle.gg_bits.specs.Lists.{find_word}
 use Rattle.gg_shape_names.proofs.FindLemmas.{table-at, placed-of, meaning-found}
 use Rattle.gg_shape_names.proofs.find.role_in.Goals as goal

@@ -1,5 +1,5 @@
 use Rattle.std.proofs.Common.{sym, ap, ◌∙◌}
-use Rattle.gg_shape_names.specs.Tables.{through}
+use Rattle.gg_shape_names.specs.inside.Tables.{through}
 use Rattle.gg_shape_names.proofs.find.role_through.Goals as goal
 
 pub returns-in-FieldOf : goal.returns-in-FieldOf

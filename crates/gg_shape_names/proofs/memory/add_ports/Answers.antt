@@ -1,8 +1,9 @@
 use Rattle.std.proofs.Common.{◌≡◌, [], ◌++◌, rules, sym, ap, subst, ◌∙◌}
 use Rattle.std.proofs.lemmas.Result.{on_ok_weaker}
 use Rattle.gg_shape_names.specs.Memory.{readers_in, writers_in}
-use Rattle.gg_shape_names.specs.Repetitions.{Tells, ports_in_field}
-use Rattle.gg_shape_names.specs.Tables.{HaveSame}
+use Rattle.gg_shape_names.specs.inside.Repetitions.{Tells}
+use Rattle.gg_shape_names.specs.Repetitions.{ports_in_field}
+use Rattle.gg_shape_names.specs.inside.Tables.{HaveSame}
 use Rattle.gg_shape_names.proofs.PortLemmas.{ports_of, readers-either, writers-either, ports-in-field, ports-same, readers-more, writers-more}
 use Rattle.gg_shape_names.proofs.memory.add_ports.Goals as goal
 

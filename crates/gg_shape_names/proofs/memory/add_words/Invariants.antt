@@ -1,7 +1,7 @@
 use Rattle.std.proofs.Common.{◌≡◌, List, ℕ, ◌++◌, take}
 use Rattle.gg_shape_names.specs.Along.{along}
 use Rattle.gg_shape_names.specs.Repetitions.{repeated_port_of}
-use Rattle.gg_shape_names.specs.Tables.{HaveSame, IsEither}
+use Rattle.gg_shape_names.specs.inside.Tables.{HaveSame, IsEither}
 use Rattle.gg_shape_names.proofs.AlongLemmas.{left}
 use Rattle.gg_shape_names.proofs.memory.add_words.Given as goal
 

@@ -1,7 +1,7 @@
 use Rattle.std.proofs.Common.{◌≡◌, take}
 use Rattle.gg_shape_names.specs.Along.{along}
 use Rattle.gg_shape_names.specs.Repetitions.{repeated_in_field}
-use Rattle.gg_shape_names.specs.Tables.{HavePorts}
+use Rattle.gg_shape_names.specs.inside.Tables.{HavePorts}
 use Rattle.gg_shape_names.proofs.AlongLemmas.{left}
 use Rattle.gg_shape_names.proofs.memory.memory_ports.Given as goal
 

@@ -1,6 +1,7 @@
 use Rattle.std.proofs.Common.{[], take, refl, sym, ap, subst, ◌∙◌, ◌++◌, ◌∷◌}
 use Rattle.std.proofs.lemmas.Result.{err_from_is_err_and}
-use Rattle.gg_shape_names.specs.Repetitions.{Names, repeated_in, repeated_port}
+use Rattle.gg_shape_names.specs.inside.Repetitions.{Names}
+use Rattle.gg_shape_names.specs.Repetitions.{repeated_in, repeated_port}
 use Rattle.gg_shape_names.proofs.AlongLemmas.{left-more, left-refused}
 use Rattle.gg_shape_names.proofs.ScopeLemmas.{TellsPorts, ports-start, ports-names, ports-next, ports-all}
 use Rattle.gg_shape_names.specs.declared.table.Declared.TheVariants.{Plain}

@@ -1,7 +1,7 @@
 use Rattle.std.proofs.Common.{◌≡◌, take}
 use Rattle.gg_shape_names.specs.Along.{along}
 use Rattle.gg_shape_names.specs.Repetitions.{repeated_by}
-use Rattle.gg_shape_names.specs.Tables.{TellsScope}
+use Rattle.gg_shape_names.specs.inside.Tables.{TellsScope}
 use Rattle.gg_shape_names.proofs.AlongLemmas.{left}
 use Rattle.gg_shape_names.proofs.module.declare_statements.Given as goal
 

@@ -1,7 +1,7 @@
 use Rattle.std.proofs.Common.{◌≡◌}
 use Rattle.gg_shape_names.specs.Along.{along}
 use Rattle.gg_shape_names.specs.Repetitions.{repeated_module}
-use Rattle.gg_shape_names.specs.Tables.{AreTold}
+use Rattle.gg_shape_names.specs.inside.Tables.{AreTold}
 use Rattle.gg_shape_names.proofs.AlongLemmas.{left}
 use Rattle.gg_shape_names.proofs.namespace.tables_of.Given as goal
 

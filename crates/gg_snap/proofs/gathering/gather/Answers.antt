@@ -3,7 +3,7 @@ use Rattle.std.proofs.lemmas.List.FromFn.{length-map-range_with_len}
 use Rattle.gg_cut_plan.specs.declared.plan.Channel.{Channel}
 use Rattle.gg_cut_plan.specs.declared.plan.Machine as planned
 use Rattle.gg_net.specs.Network.{queue_at}
-use Rattle.gg_snap.specs.Gathered.{AreDone, newest, newest_tokens}
+use Rattle.gg_snap.specs.inside.Gathered.{AreDone, newest, newest_tokens}
 use Rattle.gg_snap.proofs.GatherLemmas.{gathered}
 use Rattle.gg_snap.proofs.PipeLemmas.{pipes-by}
 use Rattle.gg_snap.proofs.gathering.gather.Goals as goal

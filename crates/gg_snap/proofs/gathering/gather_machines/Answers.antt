@@ -3,8 +3,8 @@ use Rattle.gg_flat.specs.State.{State}
 use Rattle.gg_cut_plan.specs.declared.plan.Machine as planned
 use Rattle.gg_cut_plan.specs.declared.plan.Plan.{Plan}
 use Rattle.gg_node.specs.Machine.{machine_at}
-use Rattle.gg_snap.specs.text.Parts.{HasPart}
-use Rattle.gg_snap.specs.Gathered.{AreDone, AreIn, HoldsBody, held_by, kept_by}
+use Rattle.gg_snap.specs.inside.Parts.{HasPart}
+use Rattle.gg_snap.specs.inside.Gathered.{AreDone, AreIn, HoldsBody, held_by, kept_by}
 use Rattle.gg_snap.proofs.GatherLemmas.{body-is, done-more, holds-sized, sized-more}
 use Rattle.gg_snap.proofs.gathering.gather_machines.Goals as goal
 

@@ -1,7 +1,7 @@
 use Rattle.std.proofs.Common.{◌≡◌, ℕ, ◌++◌, [], ◌∷◌, sym, ap, ap₂, ◌∙◌, arith}
 use Rattle.std.proofs.lemmas.List.FromFn.{map-range_with_len_more}
 use Rattle.gg_net.specs.Network.{queue_at}
-use Rattle.gg_snap.specs.Gathered.{newest, newest_tokens}
+use Rattle.gg_snap.specs.inside.Gathered.{newest, newest_tokens}
 use Rattle.gg_snap.proofs.gathering.newest_tokens.Goals as goal
 
 pub loop-c-preserved : goal.loop-c-preserved

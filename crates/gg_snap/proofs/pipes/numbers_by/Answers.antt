@@ -2,7 +2,7 @@ use Rattle.std.proofs.Common.{◌≡◌, ℕ, ◌+◌, ◌++◌, [], ◌∷◌, 
 use Rattle.std.specs.List.{range_with_len}
 use Rattle.std.proofs.lemmas.List.FromFn.{map-range_with_len_more}
 use Rattle.gg_order.specs.Marks.{is_marked}
-use Rattle.gg_snap.specs.Gathered.{number_below}
+use Rattle.gg_snap.specs.inside.Gathered.{number_below}
 use Rattle.gg_snap.proofs.NumberLemmas.{below-more, below-most}
 use Rattle.gg_snap.proofs.pipes.numbers_by.Goals as goal
 

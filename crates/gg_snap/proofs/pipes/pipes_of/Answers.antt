@@ -1,7 +1,7 @@
 use Rattle.std.proofs.Common.{◌≡◌, ◌<◌, ℕ, List, ◌++◌, drop, take, length, sym, ap, ◌∙◌, subst, arith}
 use Rattle.std.proofs.lemmas.List.{get_or_default, take_at}
 use Rattle.gg_flat.specs.Line.{value_at}
-use Rattle.gg_snap.specs.Gathered.{ArePipes, HaveNumbers}
+use Rattle.gg_snap.specs.inside.Gathered.{ArePipes, HaveNumbers}
 use Rattle.gg_snap.proofs.PipeLemmas.{have-numbers, long, number-at}
 use Rattle.gg_snap.proofs.pipes.pipes_of.Goals as goal
 

@@ -5,7 +5,7 @@ use Rattle.gg_flat.specs.Circuit.{FlatCircuit}
 use Rattle.gg_flat.specs.State.{IsState}
 use Rattle.gg_cut_plan.specs.declared.plan.Channel.{Channel}
 use Rattle.gg_net.specs.Network.{kind_of}
-use Rattle.gg_snap.specs.Gathered.{AreIn, IsAll}
+use Rattle.gg_snap.specs.inside.Gathered.{AreIn, IsAll}
 use Rattle.gg_snap.specs.Whole.{last_state}
 use Rattle.gg_snap.proofs.EndedLemmas.{ended-all, ended-apart, ended-in, ended-known, ended-machines, ended-typed, ended-wires, ended-within}
 use Rattle.gg_snap.proofs.snaps.snapshot.Goals as goal

@@ -1,6 +1,6 @@
 use Rattle.std.proofs.Common.{◌≡◌, ◌<◌, ◌+◌, ℕ, List, ◌∷◌, length, drop, get_or, Option, refl, ap, ◌∙◌, arith, subst}
 use Rattle.std.specs.Char.{digit_value}
-use Rattle.gg_trace.specs.Cells.{AppendsDigit}
+use Rattle.gg_trace.specs.inside.Cells.{AppendsDigit}
 use Rattle.std.proofs.lemmas.Bool.Decides.{nat_tests}
 use Rattle.std.proofs.lemmas.List.{drop_more, drop_all}
 use Rattle.gg_trace.proofs.DigitLaws.{ReadsDigits, reads_nothing, reads_digit, reads_all, not_hexadecimal, empty_not_hexadecimal}

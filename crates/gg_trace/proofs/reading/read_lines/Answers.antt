@@ -2,8 +2,8 @@ use Rattle.std.proofs.Common.{◌≡◌, ◌+◌, ◌++◌, length, take, drop, 
 use Rattle.std.proofs.lemmas.List.{take_at}
 use Rattle.std.proofs.lemmas.Result.{err_from_is_err_and}
 use Rattle.gg_trace.specs.Fields.{fields}
-use Rattle.gg_trace.specs.Places.{ReadsRow, HasRowFault}
-use Rattle.gg_trace.specs.Table.{Table}
+use Rattle.gg_trace.specs.inside.Places.{ReadsRow, HasRowFault}
+use Rattle.gg_trace.specs.inside.Table.{Table}
 use Rattle.gg_trace.specs.Trace.{Columns}
 use Rattle.gg_trace.proofs.TraceLaws.{ReadsRows, reads_row, row_fault, reads_all_rows}
 use Rattle.gg_trace.proofs.reading.read_lines.Goals as goal

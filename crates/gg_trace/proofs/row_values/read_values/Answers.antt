@@ -1,7 +1,7 @@
 use Rattle.std.proofs.Common.{◌+◌, get_or, sym, subst}
 use Rattle.std.proofs.lemmas.Result.{err_from_is_err_and}
 use Rattle.gg_trace.specs.Cells.{IsCell}
-use Rattle.gg_trace.specs.Places.{HasValueFault}
+use Rattle.gg_trace.specs.inside.Places.{HasValueFault}
 use Rattle.gg_trace.proofs.PortLaws.{width_at-get}
 use Rattle.gg_trace.proofs.RowLaws.{ReadsCells, next_cell, reads_cell, cell_fault, reads_all_cells}
 use Rattle.gg_trace.proofs.row_values.read_values.Goals as goal

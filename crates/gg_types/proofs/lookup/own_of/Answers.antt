@@ -1,6 +1,6 @@
 use Rattle.std.proofs.Common.{sym, ap, ◌∙◌, arith}
 use Rattle.gg_shape_names.specs.Modules.{module_at}
-use Rattle.gg_shape_names.specs.Namespace.{names_in}
+use Rattle.gg_shape_names.specs.inside.Namespace.{names_in}
 use Rattle.gg_types.proofs.OwnLemmas.{entry_at, entry-placed, entry_at-there, entry_at-past}
 use Rattle.gg_types.proofs.lookup.own_of.Goals as goal
 

@@ -1,11 +1,11 @@
 use Rattle.std.proofs.Common.{◌≡◌, sym, ap, subst, ◌∙◌, rules}
 use Rattle.gg_ast.specs.Tree.{ModuleTree}
 use Rattle.gg_shape_names.specs.Modules.{module_at}
-use Rattle.gg_shape_names.specs.Namespace.{names_in}
-use Rattle.gg_shape.specs.Faults.{Refuses}
+use Rattle.gg_shape_names.specs.inside.Namespace.{names_in}
+use Rattle.gg_shape.specs.inside.Faults.{Refuses}
 use Rattle.gg_types.specs.Clocks.{leads_to_input}
-use Rattle.gg_types_rules.specs.Known.{names_seen}
-use Rattle.gg_types.specs.Named.{flagged, owned}
+use Rattle.gg_types_rules.specs.inside.Known.{names_seen}
+use Rattle.gg_types.specs.inside.Named.{flagged, owned}
 use Rattle.gg_types.specs.Types.{faults_of_module}
 use Rattle.gg_types_rules.proofs.KnownLemmas.{faults-same, known-same, names-at}
 use Rattle.gg_types_rules.proofs.circuit.judge_module.Goals as goal

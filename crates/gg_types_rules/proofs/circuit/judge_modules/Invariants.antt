@@ -1,6 +1,6 @@
 use Rattle.std.proofs.Common.{◌≡◌, drop}
 use Rattle.std.specs.List.{flat_map}
-use Rattle.gg_types.specs.Typed.{TellModules, TellAllClocks}
+use Rattle.gg_types.specs.inside.Typed.{TellModules, TellAllClocks}
 use Rattle.gg_types.specs.Types.{faults_of_module, type_faults}
 use Rattle.gg_types_rules.proofs.circuit.judge_modules.Given as goal
 

@@ -1,5 +1,5 @@
 use Rattle.std.proofs.Common.{◌/◌, ◌%◌, length, slice_index, map, eqb, if◌then◌else◌, refl, sym, ap, subst, ◌∙◌}
-use Rattle.gg_types.specs.Places.{ArePlaces, iterate}
+use Rattle.gg_types.specs.inside.Places.{ArePlaces, iterate}
 use Rattle.gg_types.proofs.ClockLemmas.{map-places, if-places, squared}
 use Rattle.gg_types_rules.proofs.clocks.after_steps.Goals as goal
 

@@ -1,5 +1,5 @@
 use Rattle.std.proofs.Common.{◌≡◌, ℕ, ◌<◌, length, slice_index}
-use Rattle.gg_types.specs.Places.{ArePlaces, iterate}
+use Rattle.gg_types.specs.inside.Places.{ArePlaces, iterate}
 use Rattle.gg_types_rules.proofs.clocks.after_steps.Given as goal
 
 abbrev pub invariant-loop-left : goal.invariant-loop-left

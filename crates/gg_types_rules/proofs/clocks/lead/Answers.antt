@@ -1,7 +1,7 @@
 use Rattle.std.proofs.Common.{◌≡◌, Some, true, false, option_copied, slice_set, if◌then◌else◌, sym, ap, ◌∙◌}
 use Rattle.gg_types.specs.Clocks.{is_followed}
 use Rattle.gg_bits.specs.Lists.{find_word}
-use Rattle.gg_types.specs.Places.{next_at, set_next, place_in}
+use Rattle.gg_types.specs.inside.Places.{next_at, set_next, place_in}
 use Rattle.gg_types.proofs.PlaceLemmas.{placed-way}
 use Rattle.gg_types_rules.proofs.clocks.lead.Goals as goal
 

@@ -1,6 +1,6 @@
 use Rattle.std.proofs.Common.{[], ◌∷◌, ◌++◌, take, sym, ap, subst, ◌∙◌, arith}
 use Rattle.std.proofs.lemmas.List.{take_more}
-use Rattle.gg_types.specs.Places.{TellsNext}
+use Rattle.gg_types.specs.inside.Places.{TellsNext}
 use Rattle.gg_types.proofs.ClockLemmas.{own-tells, follow-tells}
 use Rattle.gg_types_rules.proofs.clocks.next_places.Goals as goal
 

@@ -5,9 +5,10 @@ use Rattle.gg_ast.specs.Tree.{ModuleTree}
 use Rattle.gg_ast.specs.declared.statement.Stmt.{Stmt}
 use Rattle.gg_shape_names.specs.Modules.{module_at}
 use Rattle.gg_types.specs.declared.way.Way.{Way}
-use Rattle.gg_types.specs.Clocks.{clock_numbers, leads, ways_by, ways_of}
-use Rattle.gg_types.specs.Named.{flag_at, number_at}
-use Rattle.gg_types.specs.Places.{Reaches, TellsNext}
+use Rattle.gg_types.specs.inside.Clocks.{clock_numbers}
+use Rattle.gg_types.specs.Clocks.{leads, ways_by, ways_of}
+use Rattle.gg_types.specs.inside.Named.{flag_at, number_at}
+use Rattle.gg_types.specs.inside.Places.{Reaches, TellsNext}
 use Rattle.gg_types.proofs.ClockLemmas.{traced}
 use Rattle.gg_types.proofs.InputLemmas.{clocks-told}
 use Rattle.gg_types_rules.proofs.WayLemmas.{ways-names}

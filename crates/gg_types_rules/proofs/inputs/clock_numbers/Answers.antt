@@ -1,5 +1,6 @@
 use Rattle.std.proofs.Common.{ℕ, ◌+◌, List, Option, [], ◌∷◌, ◌++◌, drop, ap, ◌∙◌}
-use Rattle.gg_types.specs.Clocks.{clock_number, clock_numbers}
+use Rattle.gg_types.specs.Clocks.{clock_number}
+use Rattle.gg_types.specs.inside.Clocks.{clock_numbers}
 use Rattle.gg_types.proofs.InputLemmas.{numbers-more}
 use Rattle.gg_types_rules.proofs.inputs.clock_numbers.Goals as goal
 

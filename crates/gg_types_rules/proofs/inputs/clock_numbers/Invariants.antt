@@ -1,5 +1,5 @@
 use Rattle.std.proofs.Common.{◌≡◌, ◌++◌, drop}
-use Rattle.gg_types.specs.Clocks.{clock_numbers}
+use Rattle.gg_types.specs.inside.Clocks.{clock_numbers}
 use Rattle.gg_types_rules.proofs.inputs.clock_numbers.Given as goal
 
 abbrev pub invariant-loop-port : goal.invariant-loop-port

@@ -1,8 +1,8 @@
 use Rattle.std.proofs.Common.{◌≡◌, map, flat_map, OnOk, ap, subst, ◌∙◌}
 use Rattle.gg_shape_names.specs.Along.{along}
-use Rattle.gg_shape.specs.Faults.{Answers}
+use Rattle.gg_shape.specs.inside.Faults.{Answers}
 use Rattle.gg_shape.proofs.FlatLemmas.{decided_next}
-use Rattle.gg_types_rules.specs.Known.{roles_seen, traced_seen, owned_seen}
+use Rattle.gg_types_rules.specs.inside.Known.{roles_seen, traced_seen, owned_seen}
 use Rattle.gg_types.specs.Owned.{port_own}
 use Rattle.gg_types.specs.Types.{port_faults, faults_of, known_after}
 use Rattle.gg_types_rules.proofs.KnownLemmas.{roles-same, traced-same}

@@ -1,8 +1,8 @@
 use Rattle.std.proofs.Common.{◌+◌, [], ◌∷◌, ◌++◌, length, map, take, Some, refl, sym, ap, ◌∙◌, rules}
 use Rattle.gg_shape.proofs.FlatLemmas.{rest-more, rest-refused}
 use Rattle.gg_types.specs.declared.sort.Own.TheVariants.{Single}
-use Rattle.gg_types_rules.specs.Known.{names_seen}
-use Rattle.gg_types.specs.Named.{owned}
+use Rattle.gg_types_rules.specs.inside.Known.{names_seen}
+use Rattle.gg_types.specs.inside.Named.{owned}
 use Rattle.gg_types.specs.Owned.{port_own}
 use Rattle.gg_types.specs.Types.{port_faults}
 use Rattle.gg_types_rules.proofs.KnownLemmas.{names-same}

@@ -1,6 +1,6 @@
 use Rattle.std.proofs.Common.{◌≡◌, map, take, drop, length}
 use Rattle.std.specs.List.{flat_map}
-use Rattle.gg_types_rules.specs.Known.{owned_seen}
+use Rattle.gg_types_rules.specs.inside.Known.{owned_seen}
 use Rattle.gg_types.specs.Owned.{port_own}
 use Rattle.gg_types.specs.Types.{port_faults}
 use Rattle.gg_types_rules.proofs.module.judge_ports.Given as goal

@@ -1,9 +1,9 @@
 use Rattle.std.proofs.Common.{◌≡◌, [], ◌+◌, ◌++◌, length, map, take, sym, ap, subst, ◌∙◌, rules}
 use Rattle.gg_shape_names.specs.Namespace.{name_by}
-use Rattle.gg_shape.specs.Faults.{Refuses}
+use Rattle.gg_shape.specs.inside.Faults.{Refuses}
 use Rattle.gg_shape.proofs.FlatLemmas.{along-refused}
 use Rattle.gg_shape_names.proofs.AlongLemmas.{left-more}
-use Rattle.gg_types_rules.specs.Known.{roles_seen, traced_seen, owned_seen, names_seen}
+use Rattle.gg_types_rules.specs.inside.Known.{roles_seen, traced_seen, owned_seen, names_seen}
 use Rattle.gg_types.specs.Owned.{port_own}
 use Rattle.gg_types.specs.Types.{faults_of, faults_of_kind, own_by}
 use Rattle.gg_types_rules.proofs.KnownLemmas.{names-same, roles-same, traced-same}

@@ -2,7 +2,7 @@ use Rattle.std.proofs.Common.{◌≡◌, map, take, length}
 use Rattle.gg_shape_names.specs.Namespace.{names_after}
 use Rattle.gg_shape_names.specs.Along.{along}
 use Rattle.gg_shape_names.proofs.AlongLemmas.{left}
-use Rattle.gg_types_rules.specs.Known.{roles_seen, traced_seen, owned_seen}
+use Rattle.gg_types_rules.specs.inside.Known.{roles_seen, traced_seen, owned_seen}
 use Rattle.gg_types.specs.Owned.{port_own}
 use Rattle.gg_types.specs.Types.{faults_of, known_after}
 use Rattle.gg_types_rules.proofs.module.judge_statements.Given as goal

@@ -1,6 +1,6 @@
 use Rattle.std.proofs.Common.{ap, ◌∙◌}
-use Rattle.gg_types_rules.specs.Known.{names_seen}
-use Rattle.gg_types.specs.Named.{owned}
+use Rattle.gg_types_rules.specs.inside.Known.{names_seen}
+use Rattle.gg_types.specs.inside.Named.{owned}
 use Rattle.gg_types.proofs.OwnLemmas.{owned-push}
 use Rattle.gg_types_rules.proofs.statement.declare.Goals as goal
 

@@ -1,5 +1,5 @@
 use Rattle.std.proofs.Common.{◌≡◌, drop}
-use Rattle.gg_types_rules.specs.Known.{roles_seen, traced_seen, owned_seen}
+use Rattle.gg_types_rules.specs.inside.Known.{roles_seen, traced_seen, owned_seen}
 use Rattle.gg_types.specs.Types.{argument_faults}
 use Rattle.gg_types_rules.proofs.statement.judge_arguments.Given as goal
 

@@ -1,9 +1,9 @@
 use Rattle.std.proofs.Common.{◌≡◌, [], ◌∷◌, ◌++◌, Some, ap, subst, ◌∙◌}
 use Rattle.gg_shape.specs.declared.fault.Word.TheVariants as words
-use Rattle.gg_shape.specs.Faults.{Answers}
+use Rattle.gg_shape.specs.inside.Faults.{Answers}
 use Rattle.gg_shape.proofs.FlatLemmas.{decided_next}
 use Rattle.gg_types.specs.declared.sort.Own.TheVariants.{Single}
-use Rattle.gg_types_rules.specs.Known.{roles_seen, traced_seen, owned_seen}
+use Rattle.gg_types_rules.specs.inside.Known.{roles_seen, traced_seen, owned_seen}
 use Rattle.gg_types.specs.Sorts.{sort_of}
 use Rattle.gg_types.specs.Types.{stored_type_faults, clock_faults_in, reset_faults}
 use Rattle.gg_types_rules.proofs.KnownLemmas.{roles-same, traced-same}

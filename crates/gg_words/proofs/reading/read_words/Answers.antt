@@ -6,7 +6,8 @@ use Rattle.clap.specs.Values.{kind_of}
 use Rattle.clap.specs.declared.error.kind.ErrorKind.{ErrorKind}
 use Rattle.clap.specs.declared.error.kind.ErrorKind.TheVariants as kind
 use Rattle.gg_words.specs.Line.{golden_app}
-use Rattle.gg_words.specs.Meaning.{HasWords, texts}
+use Rattle.gg_words.specs.inside.Meaning.{HasWords}
+use Rattle.gg_words.specs.Meaning.{texts}
 use Rattle.gg_words.proofs.ReadLaws.{answers-so, found-if-app, refused-if-app, taken-if-app}
 use Rattle.gg_words.proofs.reading.read_words.Goals as goal
 

@@ -1,7 +1,7 @@
 use Rattle.std.proofs.Common.{length, map}
-use Rattle.gg_net.specs.Stations.{machines_by}
-use Rattle.gg_workers_pass.specs.Seats.{TakeSeatOf, PutSeatOf}
-use Rattle.gg_workers.specs.Apart.{consumer_in, producer_in, AllBack}
+use Rattle.gg_net.specs.inside.Stations.{machines_by}
+use Rattle.gg_workers_pass.specs.inside.Seats.{TakeSeatOf, PutSeatOf}
+use Rattle.gg_workers.specs.inside.Apart.{consumer_in, producer_in, AllBack}
 use Rattle.gg_workers.proofs.apart.return_all.Given as goal
 
 abbrev pub invariant-loop-row : goal.invariant-loop-row

@@ -1,5 +1,5 @@
 use Rattle.std.proofs.Common.{map}
-use Rattle.gg_net.specs.Stations.{machines_by}
+use Rattle.gg_net.specs.inside.Stations.{machines_by}
 use Rattle.gg_workers.proofs.ListLemmas.{read_at}
 use Rattle.gg_workers.proofs.ApartLemmas.{takes-back, puts-back}
 use Rattle.gg_workers.proofs.apart.return_machine.Goals as goal

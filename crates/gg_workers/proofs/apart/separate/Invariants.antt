@@ -1,6 +1,6 @@
 use Rattle.std.proofs.Common.{◌≡◌, map}
 use Rattle.std.specs.Vec.{vec_capacity}
-use Rattle.gg_workers.specs.Apart.{row_of}
+use Rattle.gg_workers.specs.inside.Apart.{row_of}
 use Rattle.gg_workers.proofs.apart.separate.Given as goal
 
 abbrev pub invariant-loop-linked_host : goal.invariant-loop-linked_host

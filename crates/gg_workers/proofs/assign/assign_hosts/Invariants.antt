@@ -1,6 +1,6 @@
 use Rattle.std.proofs.Common.{◌-◌, ◌≡◌, length}
 use Rattle.std.specs.Vec.{vec_capacity}
-use Rattle.gg_workers.specs.Assigned.{Assigning}
+use Rattle.gg_workers.specs.inside.Assigned.{Assigning}
 use Rattle.gg_workers.proofs.assign.assign_hosts.Given as goal
 
 abbrev pub invariant-loop-linked_host : goal.invariant-loop-linked_host

@@ -1,6 +1,6 @@
 use Rattle.std.proofs.Common.{◌-◌, ◌≡◌, length}
 use Rattle.std.specs.Vec.{vec_capacity}
-use Rattle.gg_workers.specs.Assigned.{Collecting}
+use Rattle.gg_workers.specs.inside.Assigned.{Collecting}
 use Rattle.gg_workers.proofs.assign.collect_hosts.Given as goal
 
 abbrev pub invariant-loop-host : goal.invariant-loop-host

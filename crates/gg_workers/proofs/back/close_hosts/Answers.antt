@@ -1,10 +1,10 @@
 use Rattle.std.proofs.Common.{◌≡◌, [], length, map, sym, subst, ◌∙◌}
 use Rattle.gg_net.specs.Network.{frame_of}
-use Rattle.gg_net.specs.Net.{AreListed}
-use Rattle.gg_net.specs.Stations.{machines_by}
-use Rattle.gg_workers_pass.specs.Seats.{Linked, MayStand, TakeSeatOf, PutSeatOf}
-use Rattle.gg_workers.specs.Apart.{AreSeats}
-use Rattle.gg_workers.specs.LinkedHosts.{DoneAt, AreLinkedHosts}
+use Rattle.gg_net.specs.inside.Net.{AreListed}
+use Rattle.gg_net.specs.inside.Stations.{machines_by}
+use Rattle.gg_workers_pass.specs.inside.Seats.{Linked, MayStand, TakeSeatOf, PutSeatOf}
+use Rattle.gg_workers.specs.inside.Apart.{AreSeats}
+use Rattle.gg_workers.specs.inside.LinkedHosts.{DoneAt, AreLinkedHosts}
 use Rattle.gg_workers.proofs.BackLemmas.{count-start, listed-start, linked-back, stand-back, parts-back, later-back, seats-lent}
 use Rattle.gg_workers.proofs.back.close_hosts.Goals as goal
 

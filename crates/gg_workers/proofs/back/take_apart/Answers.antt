@@ -1,10 +1,10 @@
 use Rattle.std.proofs.Common.{List, length, map, ap, ◌∙◌, arith}
 use Rattle.std.proofs.lemmas.List.{length-map}
 use Rattle.gg_node.specs.Machine.{Machine}
-use Rattle.gg_net.specs.Stations.{machines_by}
+use Rattle.gg_net.specs.inside.Stations.{machines_by}
 use Rattle.gg_net.proofs.MayLemmas.{consumer-there, producer-there}
-use Rattle.gg_workers_pass.specs.Seats.{TakeSeatOf, PutSeatOf}
-use Rattle.gg_workers.specs.Apart.{consumer_in, producer_in}
+use Rattle.gg_workers_pass.specs.inside.Seats.{TakeSeatOf, PutSeatOf}
+use Rattle.gg_workers.specs.inside.Apart.{consumer_in, producer_in}
 use Rattle.gg_workers.proofs.WorkLemmas.{rows-owned, all-there, are-seats}
 use Rattle.gg_workers.proofs.back.take_apart.Goals as goal
 

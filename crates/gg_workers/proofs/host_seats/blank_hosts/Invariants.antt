@@ -1,5 +1,5 @@
 use Rattle.std.proofs.Common.{◌≡◌, ℕ, ◌<◌, length, map, slice_index_or}
-use Rattle.gg_net.specs.Stations.{hosted}
+use Rattle.gg_net.specs.inside.Stations.{hosted}
 use Rattle.gg_workers.proofs.host_seats.blank_hosts.Given as goal
 
 abbrev pub invariant-loop-host : goal.invariant-loop-host

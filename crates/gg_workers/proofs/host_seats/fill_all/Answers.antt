@@ -1,6 +1,6 @@
 use Rattle.std.proofs.Common.{◌+◌, length, map, arith}
 use Rattle.gg_net.specs.Network.{frame_of}
-use Rattle.gg_workers.specs.HostSeats.{IsEmptyFor, IsFilledFor}
+use Rattle.gg_workers.specs.inside.HostSeats.{IsEmptyFor, IsFilledFor}
 use Rattle.gg_workers.proofs.ListLemmas.{read_at}
 use Rattle.gg_workers.proofs.HostSeatsLemmas.{host-within, places-kept, each-kept, each-more}
 use Rattle.gg_workers.proofs.FillLemmas.{rows-there, full-here, takes-left, puts-left}

@@ -1,7 +1,7 @@
 use Rattle.std.proofs.Common.{length, map}
 use Rattle.gg_net.specs.Network.{wire_at}
-use Rattle.gg_workers_pass.specs.SeatLists.{AreLeft}
-use Rattle.gg_workers.specs.HostSeats.{IsEmptyFor, IsFilledFor, HasPlaces, EachMachine}
+use Rattle.gg_workers_pass.specs.inside.SeatLists.{AreLeft}
+use Rattle.gg_workers.specs.inside.HostSeats.{IsEmptyFor, IsFilledFor, HasPlaces, EachMachine}
 use Rattle.gg_workers.proofs.host_seats.fill_all.Given as goal
 
 abbrev pub invariant-loop-machine : goal.invariant-loop-machine

@@ -1,5 +1,5 @@
 use Rattle.std.proofs.Common.{map}
-use Rattle.gg_workers.specs.HostSeats.{IsEmptyFor}
+use Rattle.gg_workers.specs.inside.HostSeats.{IsEmptyFor}
 use Rattle.gg_workers.proofs.ListLemmas.{read_at}
 use Rattle.gg_workers.proofs.HostSeatsLemmas.{host-within, places-kept, each-more}
 use Rattle.gg_workers.proofs.host_seats.reserve_seats.Goals as goal

@@ -1,5 +1,5 @@
 use Rattle.std.proofs.Common.{map}
-use Rattle.gg_workers.specs.HostSeats.{IsEmptyFor, HasPlaces, EachMachine}
+use Rattle.gg_workers.specs.inside.HostSeats.{IsEmptyFor, HasPlaces, EachMachine}
 use Rattle.gg_workers.proofs.host_seats.reserve_seats.Given as goal
 
 abbrev pub invariant-loop-machine : goal.invariant-loop-machine

@@ -2,8 +2,8 @@ use Rattle.std.proofs.Common.{List, map, [], refl, sym, subst, ◌∙◌, arith}
 use Rattle.std.proofs.lemmas.List.{length-map}
 use Rattle.gg_net.specs.declared.shape.Station.{Station}
 use Rattle.gg_net.specs.Network.{Network}
-use Rattle.gg_net.specs.Stations.{stationed, machines_by}
-use Rattle.gg_workers_pass.specs.Seats.{Linked}
+use Rattle.gg_net.specs.inside.Stations.{stationed, machines_by}
+use Rattle.gg_workers_pass.specs.inside.Seats.{Linked}
 use Rattle.gg_workers_pass.proofs.NetLemmas.{linked-none, same-net, closed-net}
 use Rattle.gg_workers.proofs.links.open_links.Goals as goal
 

@@ -1,7 +1,7 @@
 use Rattle.std.proofs.Common.{length, map, refl, sym, ap, subst, ◌∙◌, arith}
 use Rattle.std.proofs.lemmas.List.{length-map}
-use Rattle.gg_workers.specs.Apart.{WasJoined}
-use Rattle.gg_workers.specs.LinkedHosts.{ReadyAt, AreLinkedHosts}
+use Rattle.gg_workers.specs.inside.Apart.{WasJoined}
+use Rattle.gg_workers.specs.inside.LinkedHosts.{ReadyAt, AreLinkedHosts}
 use Rattle.gg_workers.proofs.BackLemmas.{linked_hosts-lent}
 use Rattle.gg_workers.proofs.opened.assemble.Goals as goal
 

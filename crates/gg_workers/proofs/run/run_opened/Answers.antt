@@ -1,7 +1,7 @@
 use Rattle.std.proofs.Common.{◌≡◌, length, sym, subst}
 use Rattle.gg_net.specs.Network.{frame_of}
-use Rattle.gg_net.specs.Net.{AreListed}
-use Rattle.gg_workers.specs.LinkedHosts.{ReadyAt, DoneAt, AreLinkedHosts}
+use Rattle.gg_net.specs.inside.Net.{AreListed}
+use Rattle.gg_workers.specs.inside.LinkedHosts.{ReadyAt, DoneAt, AreLinkedHosts}
 use Rattle.gg_workers.proofs.BackLemmas.{count-start, listed-start, linked_hosts-lent}
 use Rattle.gg_workers.proofs.run.run_opened.Goals as goal
 

@@ -1,4 +1,4 @@
-use Rattle.gg_workers.specs.Making.{AreIdle}
+use Rattle.gg_workers.specs.inside.Making.{AreIdle}
 use Rattle.gg_workers.proofs.setup.idle_workers.Given as goal
 
 abbrev pub invariant-loop : goal.invariant-loop

@@ -1,6 +1,6 @@
 use Rattle.std.proofs.Common.{◌≡◌, ℕ, ◌≤◌, length, slice_index_or}
 use Rattle.std.specs.Vec.{vec_capacity}
-use Rattle.gg_workers.specs.Making.{HaveTheirSeats}
+use Rattle.gg_workers.specs.inside.Making.{HaveTheirSeats}
 use Rattle.gg_workers.proofs.setup.link_hosts.Given as goal
 
 abbrev pub invariant-loop-host : goal.invariant-loop-host

@@ -1,8 +1,8 @@
 use Rattle.std.proofs.Common.{map, sym, subst, ap, length, ◌∙◌}
 use Rattle.std.proofs.lemmas.List.{length-map}
-use Rattle.gg_net.specs.Stations.{stationed}
-use Rattle.gg_workers.specs.LinkedHosts.{ReadyAt}
-use Rattle.gg_workers.specs.HostSeats.{HasPlaces}
+use Rattle.gg_net.specs.inside.Stations.{stationed}
+use Rattle.gg_workers.specs.inside.LinkedHosts.{ReadyAt}
+use Rattle.gg_workers.specs.inside.HostSeats.{HasPlaces}
 use Rattle.gg_workers.proofs.MakingLemmas.{ready-thread, have-seats}
 use Rattle.gg_workers.proofs.setup.make.Goals as goal
 

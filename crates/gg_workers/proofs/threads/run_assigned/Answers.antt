@@ -1,7 +1,7 @@
 use Rattle.std.proofs.Common.{◌<◌, List, [], ◌++◌, length, take, drop, sym, ◌∙◌, subst}
 use Rattle.gg_workers.specs.declared.worker.Worker.{Worker}
-use Rattle.gg_workers.specs.LinkedHosts.{ReadyAt, DoneAt}
-use Rattle.gg_workers.specs.Assigned.{Assigning}
+use Rattle.gg_workers.specs.inside.LinkedHosts.{ReadyAt, DoneAt}
+use Rattle.gg_workers.specs.inside.Assigned.{Assigning}
 use Rattle.gg_workers.proofs.TogetherLemmas.{assigned-linked_hosts, assigned-falls, collect-ready, collected-linked_hosts, collected-numbered, take-whole, ready-lent, collected-lent}
 use Rattle.gg_workers.proofs.threads.run_assigned.Goals as goal
 

@@ -1,6 +1,6 @@
 use Rattle.std.proofs.Common.{◌∙◌, inl, inr, sym, subst, arith}
-use Rattle.gg_workers.specs.LinkedHosts.{ReadyAt, DoneAt, AllEnded}
-use Rattle.gg_workers.specs.Turns.{Falls, steps_of, machines_in}
+use Rattle.gg_workers.specs.inside.LinkedHosts.{ReadyAt, DoneAt, AllEnded}
+use Rattle.gg_workers.specs.inside.Turns.{Falls, steps_of, machines_in}
 use Rattle.gg_workers.proofs.StepLemmas.{turn-more, told-count, turns-end}
 use Rattle.gg_workers.proofs.TurnLemmas.{linked_hosts-imp, done-ready}
 use Rattle.gg_workers.proofs.turns.more_turns.Goals as goal

@@ -1,6 +1,6 @@
 use Rattle.std.proofs.Common.{◌≡◌, ◌+◌, ◌*◌, ◌≤◌, map}
-use Rattle.gg_workers.specs.LinkedHosts.{DoneAt, AreLinkedHosts}
-use Rattle.gg_workers.specs.Turns.{steps_of, machines_in}
+use Rattle.gg_workers.specs.inside.LinkedHosts.{DoneAt, AreLinkedHosts}
+use Rattle.gg_workers.specs.inside.Turns.{steps_of, machines_in}
 use Rattle.gg_workers.proofs.turns.more_turns.Given as goal
 
 abbrev pub invariant-loop-turn : goal.invariant-loop-turn

@@ -1,6 +1,6 @@
 use Rattle.std.proofs.Common.{◌≡◌, ◌-◌, ◌<◌, length, arith}
-use Rattle.gg_workers.specs.LinkedHosts.{ReadyAt, DoneAt}
-use Rattle.gg_workers.specs.Turns.{machines_in}
+use Rattle.gg_workers.specs.inside.LinkedHosts.{ReadyAt, DoneAt}
+use Rattle.gg_workers.specs.inside.Turns.{machines_in}
 use Rattle.gg_workers.proofs.ListLemmas.{read_at}
 use Rattle.gg_workers.proofs.StepLemmas.{told-hosts}
 use Rattle.gg_workers.proofs.TurnLemmas.{pass-step, done-ready, same-long}

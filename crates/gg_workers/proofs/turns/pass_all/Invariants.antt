@@ -1,5 +1,5 @@
-use Rattle.gg_workers.specs.LinkedHosts.{ReadyAt, DoneAt}
-use Rattle.gg_workers.specs.Turns.{steps_of, machines_in, StepsTold}
+use Rattle.gg_workers.specs.inside.LinkedHosts.{ReadyAt, DoneAt}
+use Rattle.gg_workers.specs.inside.Turns.{steps_of, machines_in, StepsTold}
 use Rattle.gg_workers.proofs.TurnLemmas.{ArePassing, done-ready}
 use Rattle.gg_workers.proofs.turns.pass_all.Given as goal
 

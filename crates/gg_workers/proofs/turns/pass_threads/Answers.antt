@@ -1,6 +1,6 @@
 use Rattle.std.proofs.Common.{◌≡◌, ℕ, ◌<◌, length, sym, ◌∙◌, arith, length-set, subst}
 use Rattle.gg_node.specs.Machine.{machine_at}
-use Rattle.gg_workers.specs.LinkedHosts.{ReadyAt, DoneAt}
+use Rattle.gg_workers.specs.inside.LinkedHosts.{ReadyAt, DoneAt}
 use Rattle.gg_workers.proofs.ListLemmas.{read_at}
 use Rattle.gg_workers.proofs.StepLemmas.{told-machines}
 use Rattle.gg_workers.proofs.TurnLemmas.{turn-step, done-ready, pass-done, thread-here}

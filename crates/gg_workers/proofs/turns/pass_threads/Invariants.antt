@@ -1,6 +1,6 @@
 use Rattle.std.proofs.Common.{◌≡◌, length}
-use Rattle.gg_workers.specs.LinkedHosts.{ReadyAt, DoneAt}
-use Rattle.gg_workers.specs.Turns.{host_steps, StepsTold}
+use Rattle.gg_workers.specs.inside.LinkedHosts.{ReadyAt, DoneAt}
+use Rattle.gg_workers.specs.inside.Turns.{host_steps, StepsTold}
 use Rattle.gg_workers.proofs.TurnLemmas.{AreTurning, done-ready}
 use Rattle.gg_workers.proofs.turns.pass_threads.Given as goal
 

@@ -1,6 +1,6 @@
 use Rattle.std.proofs.Common.{inl, sym, subst, arith}
-use Rattle.gg_workers.specs.LinkedHosts.{AllEnded}
-use Rattle.gg_workers.specs.Turns.{Falls, steps_of, machines_in}
+use Rattle.gg_workers.specs.inside.LinkedHosts.{AllEnded}
+use Rattle.gg_workers.specs.inside.Turns.{Falls, steps_of, machines_in}
 use Rattle.gg_workers.proofs.StepLemmas.{told-count, turns-all, idle-few}
 use Rattle.gg_workers.proofs.TurnLemmas.{all-ended}
 use Rattle.gg_workers.proofs.turns.run_worker.Goals as goal

@@ -1,5 +1,5 @@
 use Rattle.std.proofs.Common.{map, ◌∙◌}
-use Rattle.gg_net.specs.Stations.{machines_by}
+use Rattle.gg_net.specs.inside.Stations.{machines_by}
 use Rattle.gg_workers_pass.proofs.StandLemmas.{unrolled, last-seats, close-room, close-step}
 use Rattle.gg_workers_pass.proofs.close.close_all.Goals as goal
 

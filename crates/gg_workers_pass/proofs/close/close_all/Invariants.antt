@@ -1,6 +1,6 @@
 use Rattle.std.proofs.Common.{length, map}
-use Rattle.gg_net.specs.Stations.{machines_by}
-use Rattle.gg_workers_pass.specs.Seats.{Linked}
+use Rattle.gg_net.specs.inside.Stations.{machines_by}
+use Rattle.gg_workers_pass.specs.inside.Seats.{Linked}
 use Rattle.gg_workers_pass.proofs.close.close_all.Given as goal
 
 abbrev pub invariant-loop-link : goal.invariant-loop-link

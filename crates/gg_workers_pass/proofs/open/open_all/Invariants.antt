@@ -1,6 +1,6 @@
 use Rattle.std.proofs.Common.{◌≡◌, length}
 use Rattle.std.specs.Vec.{vec_capacity}
-use Rattle.gg_workers_pass.specs.Seats.{Linked, AreNew}
+use Rattle.gg_workers_pass.specs.inside.Seats.{Linked, AreNew}
 use Rattle.gg_workers_pass.proofs.open.open_all.Given as goal
 
 abbrev pub invariant-loop-channel : goal.invariant-loop-channel

@@ -1,6 +1,6 @@
 use Rattle.std.proofs.Common.{◌≡◌, ◌++◌, [], ap, ◌∙◌, sym}
 use Rattle.gg_net.specs.Kept.{list_at}
-use Rattle.gg_net.specs.Net.{held_at}
+use Rattle.gg_net.specs.inside.Net.{held_at}
 use Rattle.gg_workers_pass.proofs.QueueLemmas.{refilled, restored, same-before, either, held-front}
 use Rattle.gg_workers_pass.proofs.open.open_one.Goals as goal
 

@@ -2,7 +2,7 @@ use Rattle.std.proofs.Common.{◌∙◌, ◌||◌, ap, ◌≡◌, ◌<◌, lengt
 use Rattle.std.proofs.lemmas.List.{length-map}
 use Rattle.gg_node.specs.Machine.{Machine, machine_at}
 use Rattle.gg_net.specs.Network.{kind_of}
-use Rattle.gg_workers_pass.specs.Rows.{LatchesTried, FiresTried, StepsDone}
+use Rattle.gg_workers_pass.specs.inside.Rows.{LatchesTried, FiresTried, StepsDone}
 use Rattle.gg_workers_pass.proofs.RowLemmas.{alone-more, alone-within}
 use Rattle.gg_workers_pass.proofs.ServeLemmas.{may-finish, alone-finish}
 use Rattle.gg_workers_pass.proofs.PassLemmas.{are-ins, are-outs, pass-machine_seats, pass-went, pass-done}

@@ -2,7 +2,7 @@ use Rattle.std.proofs.Common.{◌≡◌, ◌<◌, ◌∙◌, length, slice_set, 
 use Rattle.std.proofs.lemmas.List.{length-map}
 use Rattle.gg_node.specs.Machine.{machine_at}
 use Rattle.gg_net.specs.Network.{Kind, kind_of}
-use Rattle.gg_workers_pass.specs.Rows.{FiresTried, StepsDone}
+use Rattle.gg_workers_pass.specs.inside.Rows.{FiresTried, StepsDone}
 use Rattle.gg_workers_pass.proofs.RowLemmas.{alone-within, read-some}
 use Rattle.gg_workers_pass.proofs.FireLemmas.{may-give, token-next, fire-step, alone-fire}
 use Rattle.gg_workers_pass.proofs.DoneLemmas.{fire-done, done-more}

@@ -1,6 +1,6 @@
 use Rattle.std.proofs.Common.{◌≡◌, slice_set}
 use Rattle.gg_node.specs.Machine.{machine_at}
-use Rattle.gg_workers_pass.specs.Rows.{FiresTried, StepsDone}
+use Rattle.gg_workers_pass.specs.inside.Rows.{FiresTried, StepsDone}
 use Rattle.gg_workers_pass.proofs.rows.fire_all.Given as goal
 
 abbrev pub invariant-loop-place : goal.invariant-loop-place

@@ -2,7 +2,7 @@ use Rattle.std.proofs.Common.{◌≡◌, ◌<◌, ◌∙◌, length, slice_set, 
 use Rattle.std.proofs.lemmas.List.{length-map}
 use Rattle.gg_node.specs.Machine.{machine_at}
 use Rattle.gg_net.specs.Network.{Kind, kind_of}
-use Rattle.gg_workers_pass.specs.Rows.{LatchesTried, StepsDone}
+use Rattle.gg_workers_pass.specs.inside.Rows.{LatchesTried, StepsDone}
 use Rattle.gg_workers_pass.proofs.RowLemmas.{may-take, latch-step, alone-within, alone-latch, read-some}
 use Rattle.gg_workers_pass.proofs.DoneLemmas.{latch-done, done-more}
 use Rattle.gg_workers_pass.proofs.rows.latch_all.Goals as goal

@@ -1,6 +1,6 @@
 use Rattle.std.proofs.Common.{◌≡◌, slice_set}
 use Rattle.gg_node.specs.Machine.{machine_at}
-use Rattle.gg_workers_pass.specs.Rows.{LatchesTried, StepsDone}
+use Rattle.gg_workers_pass.specs.inside.Rows.{LatchesTried, StepsDone}
 use Rattle.gg_workers_pass.proofs.rows.latch_all.Given as goal
 
 abbrev pub invariant-loop-place : goal.invariant-loop-place

@@ -3,9 +3,9 @@ use Rattle.std.proofs.lemmas.List.{length-map}
 use Rattle.std.proofs.Math.Bool.{or-true}
 use Rattle.gg_node.specs.Machine.{Machine, machine_at}
 use Rattle.gg_net.specs.Network.{kind_of, frame_of}
-use Rattle.gg_net.specs.Net.{entry_of}
-use Rattle.gg_workers_pass.specs.Tries.{ServeTried}
-use Rattle.gg_workers_pass.specs.Rows.{ServesTried, StepsDone}
+use Rattle.gg_net.specs.inside.Net.{entry_of}
+use Rattle.gg_workers_pass.specs.inside.Tries.{ServeTried}
+use Rattle.gg_workers_pass.specs.inside.Rows.{ServesTried, StepsDone}
 use Rattle.gg_workers_pass.proofs.RowLemmas.{alone-within}
 use Rattle.gg_workers_pass.proofs.ServeLemmas.{fields-within, serve-step, serves-left, alone-serve}
 use Rattle.gg_workers_pass.proofs.DoneLemmas.{serve-done, done-more}

@@ -1,6 +1,6 @@
 use Rattle.std.proofs.Common.{◌≡◌, ◌-◌, length, slice_set}
 use Rattle.gg_node.specs.Machine.{machine_at}
-use Rattle.gg_workers_pass.specs.Rows.{ServesTried, StepsDone}
+use Rattle.gg_workers_pass.specs.inside.Rows.{ServesTried, StepsDone}
 use Rattle.gg_workers_pass.proofs.rows.serve_all.Given as goal
 
 abbrev pub invariant-loop-stepped : goal.invariant-loop-stepped

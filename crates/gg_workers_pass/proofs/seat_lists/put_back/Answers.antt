@@ -3,7 +3,7 @@ use Rattle.std.proofs.lemmas.List.{length_push}
 use Rattle.std.proofs.lemmas.Iterator.Adapters.{YieldsList-from_vec}
 use Rattle.std.proofs.lemmas.Iterator.Consumers.{YieldsList-turn}
 use Rattle.gg_flat.specs.Line.{value_at}
-use Rattle.gg_workers_pass.specs.SeatLists.{RowPutBack}
+use Rattle.gg_workers_pass.specs.inside.SeatLists.{RowPutBack}
 use Rattle.gg_workers_pass.proofs.SeatListLemmas.{put_back-more}
 use Rattle.gg_workers_pass.proofs.seat_lists.put_back.Goals as goal
 

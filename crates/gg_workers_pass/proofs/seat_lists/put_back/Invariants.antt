@@ -1,5 +1,5 @@
 use Rattle.std.proofs.Common.{◌≡◌, length}
-use Rattle.gg_workers_pass.specs.SeatLists.{RowPutBack}
+use Rattle.gg_workers_pass.specs.inside.SeatLists.{RowPutBack}
 use Rattle.gg_workers_pass.proofs.seat_lists.put_back.Given as goal
 
 abbrev pub invariant-loop-seat : goal.invariant-loop-seat

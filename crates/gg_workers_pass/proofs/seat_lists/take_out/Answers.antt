@@ -1,7 +1,7 @@
 use Rattle.std.proofs.Common.{◌≡◌, ◌+◌, ◌<◌, ◌∙◌, None, Some, suc, length, slice_set, sym, subst, arith}
 use Rattle.std.proofs.lemmas.List.{get_or_default}
 use Rattle.gg_flat.specs.Line.{value_at}
-use Rattle.gg_workers_pass.specs.SeatLists.{seat_at, RowTakenOut}
+use Rattle.gg_workers_pass.specs.inside.SeatLists.{seat_at, RowTakenOut}
 use Rattle.gg_workers_pass.proofs.SeatListLemmas.{next-within, taken_out-more}
 use Rattle.gg_workers_pass.proofs.seat_lists.take_out.Goals as goal
 

@@ -1,6 +1,6 @@
 use Rattle.std.proofs.Common.{◌≡◌}
 use Rattle.std.specs.Vec.{vec_capacity}
-use Rattle.gg_workers_pass.specs.SeatLists.{RowTakenOut}
+use Rattle.gg_workers_pass.specs.inside.SeatLists.{RowTakenOut}
 use Rattle.gg_workers_pass.proofs.seat_lists.take_out.Given as goal
 
 abbrev pub invariant-loop-channel : goal.invariant-loop-channel

@@ -1,5 +1,5 @@
 use Rattle.std.proofs.Common.{sym, ◌∙◌}
-use Rattle.gg_io.specs.Endings.{said_by}
+use Rattle.gg_io.specs.inside.Endings.{said_by}
 use Rattle.golden.proofs.CallLemmas.{status-answered}
 use Rattle.golden.proofs.SteppedLemmas.{told-reported}
 use Rattle.golden.proofs.call.answer.Goals as goal

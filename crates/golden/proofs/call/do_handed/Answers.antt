@@ -1,11 +1,11 @@
 use Rattle.std.proofs.Common.{ap, ◌∙◌, refl, subst}
 use Rattle.gg_cut_plan.specs.Bridges.{Models}
 use Rattle.gg_io.specs.Ends.{loads_of, puts_of}
-use Rattle.gg_io.specs.Endings.{said_by}
+use Rattle.gg_io.specs.inside.Endings.{said_by}
 use Rattle.gg_io.proofs.EndingLemmas.{exit-is}
 use Rattle.golden_commands.specs.Bridges.{models_in}
 use Rattle.golden_commands.specs.Network.{RanNetwork}
-use Rattle.golden_commands.specs.Outcome.{CallEnded}
+use Rattle.golden_commands.specs.inside.Outcome.{CallEnded}
 use Rattle.golden_commands.specs.Partition.{to_run}
 use Rattle.golden_commands.specs.Stepped.{ToldByNetwork}
 use Rattle.golden.proofs.CallLemmas.{wanting-ends}

@@ -1,6 +1,6 @@
 use Rattle.std.proofs.Common.{subst}
 use Rattle.std.specs.Prelude.{◌≡◌}
-use Rattle.gg_words.specs.Range.{AreInRange}
+use Rattle.gg_words.specs.inside.Range.{AreInRange}
 use Rattle.gg_words.specs.declared.command.Cmd.TheVariants.{Resume}
 use Rattle.golden.proofs.CallLemmas.{asked-ends}
 use Rattle.golden.proofs.call.do_resume.Goals as goal

@@ -1,5 +1,5 @@
 use Rattle.std.proofs.Common.{refl}
-use Rattle.gg_io.specs.Endings.{Wants}
+use Rattle.gg_io.specs.inside.Endings.{Wants}
 use Rattle.golden.proofs.demo.demo.Goals as goal
 
 pub print_demo-requires-clause-few : goal.print_demo-requires-clause-few

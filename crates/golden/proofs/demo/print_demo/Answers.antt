@@ -3,7 +3,7 @@ use Rattle.golden_commands.specs.Partition.{to_run}
 use Rattle.gg_rows.specs.CircuitText.{demo_circuit}
 use Rattle.gg_rows.specs.PartitionText.{demo_partition}
 use Rattle.gg_rows.specs.TraceText.{demo_trace}
-use Rattle.gg_io.specs.Endings.{PrintsText, Wants}
+use Rattle.gg_io.specs.inside.Endings.{PrintsText, Wants}
 use Rattle.gg_io.proofs.EndingLemmas.{exit-is}
 use Rattle.golden_commands.specs.Demo.{demo_capacity}
 use Rattle.golden.proofs.DemoLemmas.{demo-none, demo-two, sums-only}

@@ -1,6 +1,7 @@
 use Rattle.std.proofs.Common.{sym, ap, ◌∙◌, subst}
 use Rattle.gg_flat_tree.specs.Tree.{InstanceTree}
-use Rattle.golden_commands.specs.Replayed.{AreFewNames, plan_naming}
+use Rattle.golden_commands.specs.inside.Replayed.{AreFewNames}
+use Rattle.golden_commands.specs.Replayed.{plan_naming}
 use Rattle.golden_commands.specs.Partition.{to_run}
 use Rattle.golden_commands.proofs.FedLemmas.{few-named, to-replay}
 use Rattle.golden_commands.proofs.PartitionLemmas.{designs-agree}

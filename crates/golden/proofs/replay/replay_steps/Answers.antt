@@ -1,9 +1,9 @@
 use Rattle.std.proofs.Common.{List, ℕ, inl, refl, subst}
 use Rattle.gg_io.specs.Ends.{puts_of}
-use Rattle.gg_io.specs.Endings.{PrintsOrStops}
+use Rattle.gg_io.specs.inside.Endings.{PrintsOrStops}
 use Rattle.gg_io.proofs.EndingLemmas.{IfRefused-map, exit-is, judged-ends, judged-map, stopped-ends}
 use Rattle.golden_commands.specs.Partition.{to_run}
-use Rattle.golden_commands.specs.Stepped.{IsToldText, TellsToldStep}
+use Rattle.golden_commands.specs.inside.Stepped.{IsToldText, TellsToldStep}
 use Rattle.golden.proofs.SteppedLemmas.{by-ending, ended-other, load-other, steps-behind, untold-behind}
 use Rattle.golden.proofs.replay.replay_steps.Goals as goal
 

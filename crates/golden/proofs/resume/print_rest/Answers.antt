@@ -1,5 +1,5 @@
 use Rattle.std.proofs.Common.{List, ℕ, refl, subst}
-use Rattle.gg_io.specs.Endings.{PrintsOn}
+use Rattle.gg_io.specs.inside.Endings.{PrintsOn}
 use Rattle.gg_io.proofs.EndingLemmas.{exit-is}
 use Rattle.gg_io.proofs.WritingLemmas.{none-front}
 use Rattle.golden_commands.specs.Partition.{to_save}

@@ -1,4 +1,4 @@
-use Rattle.golden_commands.specs.Runs.{resumed_flow}
+use Rattle.golden_commands.specs.inside.Runs.{resumed_flow}
 use Rattle.golden.proofs.resume.print_rest.Given as goal
 
 -- what the plan's network computes from the snapshot on

@@ -1,16 +1,17 @@
 use Rattle.std.proofs.Common.{◌≡◌, ℕ, ◌-◌, refl, sym, ap, ◌∙◌, subst, arith}
 use Rattle.gg_cut_plan.proofs.KnownLemmas.{parents-before}
-use Rattle.gg_flat_tree.specs.Clocked.{AreParentsBefore}
+use Rattle.gg_flat_tree.specs.inside.Clocked.{AreParentsBefore}
 use Rattle.gg_build.specs.Build.{run_token}
 use Rattle.gg_net.specs.Network.{AllStandAt}
 use Rattle.gg_net.specs.Network.{Network}
 use Rattle.gg_order.specs.Design.{Ordered}
 use Rattle.gg_cut_reference.specs.whole.Whole.{plan_circuit}
-use Rattle.gg_rows.specs.Printed.{plan_stops, text_since}
+use Rattle.gg_rows.specs.Printed.{plan_stops}
+use Rattle.gg_rows.specs.inside.Printed.{text_since}
 use Rattle.gg_rows.proofs.OutputLemmas.{opening-is-net, outs-few, trays-told}
 use Rattle.gg_rows.proofs.PrintedLemmas.{stops-are}
 use Rattle.gg_rows.proofs.RunLemmas.{opening-stands}
-use Rattle.gg_io.specs.Endings.{PrintsOn}
+use Rattle.gg_io.specs.inside.Endings.{PrintsOn}
 use Rattle.gg_io.proofs.EndingLemmas.{exit-is}
 use Rattle.gg_io.proofs.WritingLemmas.{none-front}
 use Rattle.golden.proofs.resume.print_since.Goals as goal

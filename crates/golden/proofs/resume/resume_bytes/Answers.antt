@@ -2,7 +2,7 @@ use Rattle.std.proofs.Common.{◌≤◌, refl, sym, arith}
 use Rattle.gg_snap.specs.text.Known.{AreKnown, CanSave}
 use Rattle.gg_snap.specs.text.Standing.{IsSnap}
 use Rattle.gg_snap.specs.text.Table.{rows_of}
-use Rattle.gg_io.specs.Endings.{PrintsText, Stops, Wants}
+use Rattle.gg_io.specs.inside.Endings.{PrintsText, Stops, Wants}
 use Rattle.gg_io.proofs.EndingLemmas.{IfRefused-map, exit-is}
 use Rattle.golden_commands.specs.Partition.{to_save}
 use Rattle.golden_commands.proofs.CaseLemmas.{case-can-save, of-made}

@@ -1,6 +1,6 @@
 use Rattle.std.proofs.Common.{ℕ, List, sym, inr, subst}
 use Rattle.std.proofs.lemmas.Result.{IfErr-weaker, IfOk-weaker}
-use Rattle.gg_snap.specs.text.Snap.{Snapshot}
+use Rattle.gg_snap.specs.inside.Snap.{Snapshot}
 use Rattle.gg_snap.specs.text.Standing.{IsSnap}
 use Rattle.gg_io.proofs.EndingLemmas.{IfRefused-map}
 use Rattle.golden.proofs.RestLemmas.{snap-fault}

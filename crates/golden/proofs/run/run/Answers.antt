@@ -1,7 +1,7 @@
 use Rattle.std.proofs.Common.{◌≡◌, refl, subst}
 use Rattle.golden_commands.specs.Commands.{asking, order_of}
 use Rattle.gg_io.specs.Ends.{loads_of, puts_of}
-use Rattle.gg_io.specs.Endings.{said_by}
+use Rattle.gg_io.specs.inside.Endings.{said_by}
 use Rattle.gg_io.specs.Order.{Write}
 use Rattle.gg_words.specs.declared.command.Cmd.TheVariants.{Run}
 use Rattle.golden_commands.specs.Partition.{to_run}

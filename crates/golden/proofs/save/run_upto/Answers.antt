@@ -1,8 +1,9 @@
 use Rattle.std.proofs.Common.{length, sym, ap, ◌∙◌, subst, refl, arith}
 use Rattle.std.proofs.lemmas.Result.{IfOk-weaker}
 use Rattle.gg_cut_plan.proofs.KnownLemmas.{parents-before}
-use Rattle.gg_flat_tree.specs.Clocked.{AreParentsBefore}
-use Rattle.gg_build.specs.Build.{run_from_zeros, run_token}
+use Rattle.gg_flat_tree.specs.inside.Clocked.{AreParentsBefore}
+use Rattle.gg_build.specs.inside.Build.{run_from_zeros}
+use Rattle.gg_build.specs.Build.{run_token}
 use Rattle.gg_order.specs.Design.{Ordered}
 use Rattle.gg_partfile.specs.declared.request.Request.{Request}
 use Rattle.gg_cut_reference.specs.Follows.{plan_start}

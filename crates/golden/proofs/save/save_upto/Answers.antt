@@ -1,5 +1,5 @@
 use Rattle.std.proofs.Common.{List, ℕ, refl, ◌∙◌, subst}
-use Rattle.gg_io.specs.Endings.{PrintsOn, PrintsText, Stops}
+use Rattle.gg_io.specs.inside.Endings.{PrintsOn, PrintsText, Stops}
 use Rattle.gg_io.proofs.EndingLemmas.{IfRefused-map, exit-is}
 use Rattle.golden_commands.proofs.PartitionLemmas.{designs-agree}
 use Rattle.golden.proofs.UptoLemmas.{upto-case, upto-gives}

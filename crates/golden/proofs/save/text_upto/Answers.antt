@@ -1,6 +1,6 @@
 use Rattle.std.proofs.Common.{subst}
 use Rattle.gg_io.proofs.EndingLemmas.{IfRefused-map, exit-is}
-use Rattle.golden_commands.specs.Runs.{FindsStop, Halted, Short}
+use Rattle.golden_commands.specs.inside.Runs.{FindsStop, Halted, Short}
 use Rattle.golden.proofs.UptoLemmas.{wants-so}
 use Rattle.golden.proofs.save.text_upto.Goals as goal
 

@@ -1,5 +1,5 @@
 use Rattle.golden_commands.proofs.LineLemmas.{LinesTo}
-use Rattle.gg_cut_reference.specs.text.PlanText.{channel_names, line_of_channel, machine_names}
+use Rattle.gg_cut_reference.specs.inside.PlanText.{channel_names, line_of_channel, machine_names}
 use Rattle.golden_commands.proofs.checking.print_channels.Given as goal
 
 abbrev pub invariant-loop-channel : goal.invariant-loop-channel

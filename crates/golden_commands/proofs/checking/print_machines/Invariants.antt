@@ -1,5 +1,5 @@
 use Rattle.golden_commands.proofs.LineLemmas.{LinesTo}
-use Rattle.gg_cut_reference.specs.text.PlanText.{line_of_machine}
+use Rattle.gg_cut_reference.specs.inside.PlanText.{line_of_machine}
 use Rattle.golden_commands.proofs.checking.print_machines.Given as goal
 
 abbrev pub invariant-loop-machine : goal.invariant-loop-machine

@@ -1,6 +1,6 @@
 use Rattle.std.proofs.Common.{List, ℕ, refl, ap, ◌∙◌, subst}
 use Rattle.gg_cut_plan.specs.declared.plan.Channel.{Channel}
-use Rattle.gg_io.specs.Endings.{PrintsOn}
+use Rattle.gg_io.specs.inside.Endings.{PrintsOn}
 use Rattle.gg_io.proofs.EndingLemmas.{exit-is}
 use Rattle.golden_commands.proofs.NetLemmas.{line-of}
 use Rattle.gg_io.proofs.WritingLemmas.{none-front}

@@ -1,8 +1,8 @@
 use Rattle.std.proofs.Common.{refl, ap, ◌∙◌, subst}
-use Rattle.gg_replay.specs.Log.{opening_log}
-use Rattle.gg_replay.specs.Stopping.{IsStop}
+use Rattle.gg_replay.specs.inside.Log.{opening_log}
+use Rattle.gg_replay.specs.inside.Stopping.{IsStop}
 use Rattle.gg_replay.specs.declared.fault.ReplayFault.{ReplayFault}
-use Rattle.gg_io.specs.Endings.{PrintsText}
+use Rattle.gg_io.specs.inside.Endings.{PrintsText}
 use Rattle.golden_commands.proofs.NetLemmas.{opening-right, wires-stay, net-goes, net-stopped, told-so}
 use Rattle.golden_commands.proofs.network.replay_net.Goals as goal
 

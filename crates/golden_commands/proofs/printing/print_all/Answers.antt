@@ -1,10 +1,10 @@
 use Rattle.std.proofs.Common.{◌≡◌, ℕ, ◌+◌, List, Bool, Err, Ok, length, ap, ◌∙◌, refl, subst, arith}
 use Rattle.std.specs.Io.KnownBytes.{append_known}
-use Rattle.gg_rows.specs.Printed.{PrintsRow, RowForm, rows_to, shown_columns}
-use Rattle.gg_rows.specs.Rows.{outputs_in}
-use Rattle.gg_rows.specs.Taken.{Took}
+use Rattle.gg_rows.specs.inside.Printed.{PrintsRow, RowForm, rows_to, shown_columns}
+use Rattle.gg_rows.specs.inside.Rows.{outputs_in}
+use Rattle.gg_rows.specs.inside.Taken.{Took}
 use Rattle.gg_rows.proofs.PrintLemmas.{header-stop, stop-as, text-whole, took-text}
-use Rattle.gg_io.specs.Endings.{PrintsOn}
+use Rattle.gg_io.specs.inside.Endings.{PrintsOn}
 use Rattle.gg_io.proofs.EndingLemmas.{exit-is}
 use Rattle.gg_io.proofs.WritingLemmas.{none-front}
 use Rattle.golden_commands.proofs.printing.print_all.Goals as goal

@@ -1,10 +1,10 @@
 use Rattle.std.proofs.Common.{List, ℕ, refl, sym, ◌∙◌, subst}
 use Rattle.gg_flat.specs.Clock.{Ratio}
-use Rattle.gg_flat_tree.specs.Clocked.{AreParentsBefore}
+use Rattle.gg_flat_tree.specs.inside.Clocked.{AreParentsBefore}
 use Rattle.gg_cut_plan.proofs.KnownLemmas.{parents-before}
 use Rattle.gg_cut_reference.specs.whole.Whole.{plan_circuit}
-use Rattle.gg_rows.specs.Printed.{text_of}
-use Rattle.gg_io.specs.Endings.{PrintsOn}
+use Rattle.gg_rows.specs.inside.Printed.{text_of}
+use Rattle.gg_io.specs.inside.Endings.{PrintsOn}
 use Rattle.gg_io.proofs.EndingLemmas.{exit-is}
 use Rattle.gg_io.proofs.WritingLemmas.{none-front}
 use Rattle.golden_commands.specs.Partition.{to_run}

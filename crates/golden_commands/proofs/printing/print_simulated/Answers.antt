@@ -2,9 +2,9 @@ use Rattle.std.proofs.Common.{List, ℕ, ◌≤◌, length, refl, sym, ap, subst
 use Rattle.gg_flat.specs.Circuit.{FlatCircuit}
 use Rattle.gg_flat.specs.Run.{IsRunFrom, clocked_start}
 use Rattle.gg_flat.proofs.StateLemmas.{IsState-opening}
-use Rattle.gg_rows.specs.Printed.{text_of}
-use Rattle.gg_refsim.specs.Cycle.{Simulation}
-use Rattle.gg_io.specs.Endings.{PrintsOn}
+use Rattle.gg_rows.specs.inside.Printed.{text_of}
+use Rattle.gg_refsim.specs.inside.Cycle.{Simulation}
+use Rattle.gg_io.specs.inside.Endings.{PrintsOn}
 use Rattle.gg_io.proofs.WritingLemmas.{none-front}
 use Rattle.golden_commands.proofs.printing.print_simulated.Goals as goal
 

@@ -4,8 +4,8 @@ use Rattle.gg_flat.specs.Circuit.{FlatCircuit}
 use Rattle.gg_flat.specs.Clock.{Ratio}
 use Rattle.gg_flat.specs.Run.{IsColumns, IsRunFrom, clocked_start}
 use Rattle.gg_cut_reference.specs.whole.Whole.{plan_circuit}
-use Rattle.gg_rows.specs.Printed.{text_of}
-use Rattle.gg_io.specs.Endings.{PrintsOn}
+use Rattle.gg_rows.specs.inside.Printed.{text_of}
+use Rattle.gg_io.specs.inside.Endings.{PrintsOn}
 use Rattle.gg_io.proofs.EndingLemmas.{exit-is}
 use Rattle.gg_io.proofs.WritingLemmas.{none-front}
 use Rattle.golden_commands.specs.Partition.{to_run}

@@ -1,5 +1,6 @@
 use Rattle.std.proofs.Common.{◌≡◌, drop}
-use Rattle.gg_cut_reference.specs.whole.Whole.{CanStandAll, with_bridges}
+use Rattle.gg_cut_reference.specs.inside.Whole.{CanStandAll}
+use Rattle.gg_cut_reference.specs.whole.Whole.{with_bridges}
 use Rattle.golden_commands.proofs.whole.joined_all.Given as goal
 
 abbrev pub invariant-loop-entry : goal.invariant-loop-entry

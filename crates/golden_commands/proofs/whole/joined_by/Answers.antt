@@ -2,7 +2,8 @@ use Rattle.std.proofs.Common.{ℕ, List, sym, subst}
 use Rattle.std.proofs.lemmas.Result.{IfOk-weaker}
 use Rattle.std.specs.Prelude.{◌≡◌}
 use Rattle.gg_flat.specs.Circuit.{FlatCircuit}
-use Rattle.gg_bridge.specs.Ports.{CanStand, joined_at}
+use Rattle.gg_bridge.specs.inside.Ports.{CanStand}
+use Rattle.gg_bridge.specs.Ports.{joined_at}
 use Rattle.golden_commands.proofs.JoinedLemmas.{model-at, model-there}
 use Rattle.golden_commands.proofs.whole.joined_by.Goals as goal
 

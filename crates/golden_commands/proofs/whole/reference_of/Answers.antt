@@ -3,7 +3,7 @@ use Rattle.std.proofs.lemmas.List.{length-map}
 use Rattle.gg_cut_split.proofs.ClosedLemmas.FaultlessLemmas.{faultless-few}
 use Rattle.gg_cut_plan.specs.Direct.{plan_routes}
 use Rattle.gg_cut_plan.specs.Seated.{plan_bridges, seated_wire}
-use Rattle.gg_cut_pipes.specs.CanPipe.{CanPipe}
+use Rattle.gg_cut_pipes.specs.inside.CanPipe.{CanPipe}
 use Rattle.golden_commands.specs.Case.{IsCase}
 use Rattle.golden_commands.specs.Partition.{Known}
 use Rattle.golden_commands.specs.declared.case.Case.{Case}

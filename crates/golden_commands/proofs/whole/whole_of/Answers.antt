@@ -3,7 +3,8 @@ use Rattle.gg_flat.specs.Circuit.{FlatCircuit}
 use Rattle.gg_partfile.specs.declared.request.BridgeEntry.{BridgeEntry}
 use Rattle.std.specs.Prelude.{List}
 use Rattle.std.proofs.lemmas.Result.{IfOk-weaker}
-use Rattle.gg_cut_reference.specs.whole.Whole.{CanStandAll, with_bridges}
+use Rattle.gg_cut_reference.specs.inside.Whole.{CanStandAll}
+use Rattle.gg_cut_reference.specs.whole.Whole.{with_bridges}
 use Rattle.gg_cut_reference.proofs.WholeLemmas.PlanLemmas.{all-stand}
 use Rattle.golden_commands.specs.Partition.{to_run}
 use Rattle.golden_commands.proofs.CaseLemmas.{case-can}

@@ -1,10 +1,10 @@
 use Rattle.std.proofs.Common.{refl, subst}
 use Rattle.gg_cut_reference.specs.whole.Whole.{plan_circuit}
-use Rattle.gg_rows.specs.Printed.{out_columns}
+use Rattle.gg_rows.specs.inside.Printed.{out_columns}
 use Rattle.std.proofs.lemmas.Result.{IfOk-weaker}
 use Rattle.gg_io.proofs.EndingLemmas.{exit-is}
 use Rattle.gg_io.proofs.WritingLemmas.{none-front}
-use Rattle.golden_commands.specs.Case.{AreFedToTrays}
+use Rattle.golden_commands.specs.inside.Case.{AreFedToTrays}
 use Rattle.golden_commands.specs.Partition.{to_run}
 use Rattle.golden_commands.proofs.FedLemmas.{fed-ports, fed-prints, fed-rows, own-run, to-replay}
 use Rattle.golden_commands.proofs.windows.print_fed.Goals as goal

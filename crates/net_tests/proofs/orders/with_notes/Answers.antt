@@ -1,6 +1,6 @@
 use Rattle.std.proofs.Common.{List, sym, subst}
 use Rattle.gg_node.specs.Machine.{Machine}
-use Rattle.gg_net.specs.Net.{AreParts}
+use Rattle.gg_net.specs.inside.Net.{AreParts}
 use Rattle.net_tests.proofs.orders.with_notes.Goals as goal
 
 pub of-requires-after_bounds : goal.of-requires-after_bounds

@@ -1,5 +1,6 @@
 use Rattle.std.proofs.Common.{◌≡◌, [], ◌∷◌, ◌++◌, refl, sym, ◌∙◌, ap, subst}
-use Rattle.gg_ast.specs.Tree.{empty_module, IsOpenToPorts}
+use Rattle.gg_ast.specs.Tree.{empty_module}
+use Rattle.gg_ast.specs.inside.Tree.{IsOpenToPorts}
 use Rattle.gg_ast.specs.Row.{numbered, CircuitRow}
 use Rattle.gg_ast.specs.Rows.{rows_of_modules}
 use Rattle.gg_ast.proofs.LastModule.{open-push, rows_of_modules-push}

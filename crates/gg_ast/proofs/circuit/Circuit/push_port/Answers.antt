@@ -1,7 +1,8 @@
 -- The modules after the call are the modules before it, with the last one changed if the call succeeded.
 use Rattle.std.proofs.Common.{◌≡◌, suc, ◌-◌, [], ◌∷◌, length, is_ok, if◌then◌else◌, slice_set, sym, ◌∙◌, ap, refl, arith}
 use Rattle.gg_ast.specs.contracts.circuit.Circuit.{the_view}
-use Rattle.gg_ast.specs.Tree.{CircuitTree, on_last, with_port}
+use Rattle.gg_ast.specs.Tree.{CircuitTree}
+use Rattle.gg_ast.specs.inside.Tree.{on_last, with_port}
 use Rattle.gg_ast.specs.Places.{place_of}
 use Rattle.gg_ast.specs.Rows.{port_row}
 use Rattle.gg_ast.proofs.KeptNames.{named-if, named-port}

@@ -1,6 +1,7 @@
 use Rattle.std.proofs.Common.{◌≡◌, suc, ◌-◌, length, is_ok, ap, arith}
 use Rattle.gg_ast.specs.contracts.module.Module.{the_view}
-use Rattle.gg_ast.specs.Tree.{ModuleTree, statement_with_field}
+use Rattle.gg_ast.specs.Tree.{ModuleTree}
+use Rattle.gg_ast.specs.inside.Tree.{statement_with_field}
 use Rattle.gg_ast.proofs.LastModule.{slice_set-if, module-if}
 use Rattle.gg_ast.proofs.module.Module.push_field.Goals as goal
 

@@ -1,7 +1,7 @@
 use Rattle.std.proofs.Common.{rules, subst}
 use Rattle.gg_node.specs.Machine.{Machine, latched_values}
 use Rattle.gg_node.specs.Token.{IsNextState}
-use Rattle.gg_bridge.specs.Model.{IsAnswer}
+use Rattle.gg_bridge.specs.inside.Model.{IsAnswer}
 use Rattle.gg_bridge.proofs.HostedLemmas.{IsGathered, gathered-by, seen-is, seen-typed, turned-settled}
 use Rattle.gg_bridge.proofs.hosted.Hosted.next_cycle.Goals as goal
 

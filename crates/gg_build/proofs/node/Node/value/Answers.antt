@@ -1,6 +1,7 @@
 use Rattle.std.proofs.Common.{◌≡◌, None, subst, sym}
-use Rattle.gg_node.specs.Machine.{IsTray, kept_value}
-use Rattle.gg_build.specs.Node.{machine_of}
+use Rattle.gg_node.specs.inside.Machine.{IsTray}
+use Rattle.gg_node.specs.Machine.{kept_value}
+use Rattle.gg_build.specs.inside.Node.{machine_of}
 use Rattle.gg_build.specs.declared.node.Node.{Node}
 use Rattle.gg_build.proofs.HostLemmas.{unit-keeps}
 use Rattle.gg_build.proofs.node.Node.value.Goals as goal

@@ -1,7 +1,7 @@
 use Rattle.std.proofs.Common.{ap, ◌∙◌, ◌++◌, ◌∷◌, [], List, ℕ, map, take, arith}
 use Rattle.gg_flat_tree.specs.Tree.{path_at}
 use Rattle.gg_cut_reference.specs.text.CheckText.{spaced}
-use Rattle.gg_cut_reference.specs.text.PlanText.{channel_names}
+use Rattle.gg_cut_reference.specs.inside.PlanText.{channel_names}
 use Rattle.gg_cut_reference.proofs.TextLemmas.LineLemmas.{spaced-more}
 use Rattle.gg_cut_reference.proofs.text.needs.spaced.Goals as goal
 

@@ -1,6 +1,6 @@
 use Rattle.std.proofs.Common.{sym, subst}
 use Rattle.gg_cut_plan.specs.Listed.{listed_of}
-use Rattle.gg_cut_split.specs.again.Again.{IsUnitAgain}
+use Rattle.gg_cut_split.specs.inside.Again.{IsUnitAgain}
 use Rattle.gg_cut_split.proofs.AgainLemmas.AgainLemmas.{unit-again}
 use Rattle.gg_cut_split.proofs.AgainLemmas.PairLemmas.{paired}
 use Rattle.gg_cut_split.proofs.again.laws.units_stand_again.Goals as goal

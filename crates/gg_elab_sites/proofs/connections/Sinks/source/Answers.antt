@@ -1,7 +1,7 @@
 use Rattle.std.proofs.Common.{length, ap, sym, ◌∙◌, refl, arith}
 use Rattle.std.specs.Prelude.{option_map}
 use Rattle.std.proofs.lemmas.Option.{slice_get_read}
-use Rattle.gg_elab_sites.specs.Views.{connection, source_at}
+use Rattle.gg_elab_sites.specs.inside.Views.{connection, source_at}
 use Rattle.gg_elab_sites.proofs.NameLemmas.{slice_get-at, place_of-at, place_of-missing}
 use Rattle.gg_elab_sites.proofs.connections.Sinks.source.Goals as goal
 

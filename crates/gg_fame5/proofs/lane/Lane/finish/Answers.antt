@@ -8,7 +8,7 @@ use Rattle.gg_flat.specs.Settled.{Settled}
 use Rattle.gg_flat.proofs.NumberLemmas.{IsOrder-numbers}
 use Rattle.gg_program.specs.Slots.{inputs_in}
 use Rattle.gg_program.specs.Right.{IsCycle}
-use Rattle.gg_fame5.specs.Lane.{empty_count}
+use Rattle.gg_fame5.specs.inside.Lane.{empty_count}
 use Rattle.gg_fame5.proofs.EmptyLemmas.{all-empty}
 use Rattle.gg_fame5.proofs.TokenLemmas.{next-is}
 use Rattle.gg_fame5.proofs.ForkLemmas.{next-forked}

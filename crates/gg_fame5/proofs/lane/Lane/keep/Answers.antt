@@ -1,7 +1,7 @@
 use Rattle.std.proofs.Common.{◌≡◌, ◌<◌, None, length, subst, sym, ap, ◌∙◌, arith}
 use Rattle.gg_node.specs.Machine.{latch_at}
 use Rattle.gg_fame5.proofs.EmptyLemmas.{one-less}
-use Rattle.gg_fame5.specs.Lane.{Laned, IsLane, latched_lane}
+use Rattle.gg_fame5.specs.inside.Lane.{Laned, IsLane, latched_lane}
 use Rattle.gg_fame5.proofs.LaneLemmas.{IsLane-latched}
 use Rattle.gg_fame5.proofs.lane.Lane.keep.Goals as goal
 

@@ -1,5 +1,5 @@
 use Rattle.std.proofs.Common.{subst, sym}
-use Rattle.gg_fame5.specs.Lane.{Hold}
+use Rattle.gg_fame5.specs.inside.Lane.{Hold}
 use Rattle.gg_fame5.proofs.LaneLemmas.{Hold-latched}
 use Rattle.gg_fame5.proofs.lane.Lane.latch.Goals as goal
 

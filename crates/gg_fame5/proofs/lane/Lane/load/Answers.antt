@@ -4,7 +4,8 @@ use Rattle.std.proofs.lemmas.List.{get_or_default}
 use Rattle.gg_flat.specs.Circuit.{FlatCircuit}
 use Rattle.gg_flat.specs.Line.{value_at}
 use Rattle.gg_node.specs.Machine.{latch_at}
-use Rattle.gg_program.specs.Slots.{Slotted, with_input}
+use Rattle.gg_program.specs.Slots.{Slotted}
+use Rattle.gg_program.specs.inside.Slots.{with_input}
 use Rattle.gg_fame5.proofs.LaneLemmas.{IsLoading, IsLoading-skip, IsLoading-put, IsLoading-end, not-some}
 use Rattle.gg_fame5.proofs.lane.Lane.load.Goals as goal
 use Rattle.gg_fame5.proofs.lane.Lane.load.Goals.{in-Some, in_default}

@@ -2,7 +2,7 @@ use Rattle.std.proofs.Common.{◌≡◌, ◌<◌, ℕ, List, Option, length, sym
 use Rattle.std.specs.Prelude.{All, Contains, slice_index_or}
 use Rattle.std.proofs.lemmas.List.{get_or_default}
 use Rattle.gg_node.specs.Machine.{first_empty, needs_at}
-use Rattle.gg_fame5.specs.Lane.{empty_count}
+use Rattle.gg_fame5.specs.inside.Lane.{empty_count}
 use Rattle.gg_fame5.proofs.EmptyLemmas.{none-missing}
 use Rattle.gg_fame5.proofs.LaneLemmas.{missing-of}
 use Rattle.gg_fame5.proofs.lane.Lane.missing.Goals as goal

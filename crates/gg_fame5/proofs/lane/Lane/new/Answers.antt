@@ -1,5 +1,5 @@
 use Rattle.std.proofs.Common.{length, sym, ap, ◌∙◌}
-use Rattle.gg_fame5.specs.Lane.{empty_count}
+use Rattle.gg_fame5.specs.inside.Lane.{empty_count}
 use Rattle.gg_fame5.proofs.EmptyLemmas.{all-empty}
 use Rattle.gg_fame5.proofs.lane.Lane.new.Goals as goal
 

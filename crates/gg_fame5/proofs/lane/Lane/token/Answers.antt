@@ -5,7 +5,7 @@ use Rattle.gg_program.specs.Slots.{inputs_in, HasNeeded}
 use Rattle.gg_program.specs.Right.{InCycle}
 use Rattle.gg_program.specs.ConeValue.{IsConeValue}
 use Rattle.gg_program.specs.Unset.{IsConeDone}
-use Rattle.gg_fame5.specs.Fork.{out_of}
+use Rattle.gg_fame5.specs.inside.Fork.{out_of}
 use Rattle.gg_fame5.proofs.TokenLemmas.{token-is}
 use Rattle.gg_fame5.proofs.ForkLemmas.{token-forked}
 use Rattle.gg_fame5.proofs.LaneLemmas.{missing-of, needed-put, Hold-read}

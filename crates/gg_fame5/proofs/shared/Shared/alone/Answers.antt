@@ -1,6 +1,6 @@
 use Rattle.std.proofs.Common.{◌≡◌, [], ◌∷◌, ◌++◌, List, sym, ap, subst, ◌∙◌}
-use Rattle.gg_fame5.specs.Lane.{Laned}
-use Rattle.gg_fame5.specs.Shared.{IsSharing}
+use Rattle.gg_fame5.specs.inside.Lane.{Laned}
+use Rattle.gg_fame5.specs.inside.Shared.{IsSharing}
 use Rattle.gg_fame5.proofs.SharedLemmas.{IsSharing-alone}
 use Rattle.gg_fame5.proofs.shared.Shared.alone.Goals as goal
 

@@ -4,8 +4,8 @@ use Rattle.std.proofs.lemmas.List.{length-map, length-set}
 use Rattle.gg_flat.specs.State.{State}
 use Rattle.gg_node.specs.Machine.{Machine, machine_at}
 use Rattle.gg_node.specs.Step.{finished}
-use Rattle.gg_fame5.specs.Lane.{Laned, lane_machine, finished_lane}
-use Rattle.gg_fame5.specs.Shared.{lane_at, machines_of}
+use Rattle.gg_fame5.specs.inside.Lane.{Laned, lane_machine, finished_lane}
+use Rattle.gg_fame5.specs.inside.Shared.{lane_at, machines_of}
 use Rattle.gg_fame5.proofs.SharedLemmas.{machine_of_lane, stepped}
 use Rattle.gg_fame5.proofs.shared.Shared.finish_by.Goals as goal
 

@@ -1,5 +1,5 @@
 use Rattle.std.proofs.Common.{List, map, ap, ◌∙◌}
-use Rattle.gg_fame5.specs.Lane.{Laned, lane_machine}
+use Rattle.gg_fame5.specs.inside.Lane.{Laned, lane_machine}
 use Rattle.gg_fame5.proofs.SharedLemmas.{IsSharing-started, machines-started}
 use Rattle.gg_fame5.proofs.shared.Shared.from_state.Goals as goal
 

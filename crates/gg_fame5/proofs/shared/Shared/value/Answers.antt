@@ -2,8 +2,8 @@ use Rattle.std.proofs.Common.{◌≡◌, subst, sym, ◌∙◌}
 use Rattle.std.proofs.lemmas.List.{get_or_default}
 use Rattle.gg_node.specs.Token.{IsToken}
 use Rattle.gg_program.specs.Unset.{IsConeDone}
-use Rattle.gg_fame5.specs.Lane.{Laned, lane_machine, out_signal}
-use Rattle.gg_fame5.specs.Shared.{Sharing, no_lane, lane_at}
+use Rattle.gg_fame5.specs.inside.Lane.{Laned, lane_machine, out_signal}
+use Rattle.gg_fame5.specs.inside.Shared.{Sharing, no_lane, lane_at}
 use Rattle.gg_fame5.proofs.shared.Shared.value.Goals as goal
 
 pub returns-clause-token : goal.returns-clause-token

@@ -1,7 +1,7 @@
 use Rattle.std.proofs.Common.{◌≡◌, refl, ap, ◌∙◌, arith}
 use Rattle.gg_node.specs.Step.{with_flag}
 use Rattle.gg_program.specs.Unset.{unset}
-use Rattle.gg_fame5.specs.Lane.{fired_lane}
+use Rattle.gg_fame5.specs.inside.Lane.{fired_lane}
 use Rattle.gg_fame5.proofs.SharedLemmas.{stepped, unset_turned}
 use Rattle.gg_fame5.proofs.shared.SharedHost.fire.Goals as goal
 

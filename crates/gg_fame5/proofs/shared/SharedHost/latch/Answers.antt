@@ -1,9 +1,10 @@
 use Rattle.std.proofs.Common.{◌≡◌, ◌<◌, length, refl, subst, sym, ap, ◌∙◌, arith}
 use Rattle.std.proofs.lemmas.List.{length-map}
 use Rattle.gg_node.specs.Machine.{Machine}
-use Rattle.gg_node.specs.Step.{MayLatch, with_latch}
-use Rattle.gg_fame5.specs.Lane.{lane_machine, latched_lane}
-use Rattle.gg_fame5.specs.Shared.{Sharing}
+use Rattle.gg_node.specs.inside.Step.{MayLatch}
+use Rattle.gg_node.specs.Step.{with_latch}
+use Rattle.gg_fame5.specs.inside.Lane.{lane_machine, latched_lane}
+use Rattle.gg_fame5.specs.inside.Shared.{Sharing}
 use Rattle.gg_fame5.proofs.SharedLemmas.{machine_of_lane, lane_turned, stepped, stepped_apart}
 use Rattle.gg_fame5.proofs.shared.SharedHost.latch.Goals as goal
 

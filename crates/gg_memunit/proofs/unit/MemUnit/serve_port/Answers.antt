@@ -6,9 +6,11 @@ use Rattle.gg_flat.specs.Clock.{edges_at}
 use Rattle.gg_flat.specs.Memory.{Bank, bank_at, read_count}
 use Rattle.gg_flat.specs.State.{State}
 use Rattle.gg_flat.specs.Served.{after_access}
-use Rattle.gg_node.specs.Machine.{due, latched_values}
+use Rattle.gg_node.specs.inside.Machine.{due}
+use Rattle.gg_node.specs.Machine.{latched_values}
 use Rattle.gg_node.specs.Step.{with_served}
-use Rattle.gg_memunit.specs.MemoryUnit.{access_of, memory_machine, state_of}
+use Rattle.gg_memunit.specs.inside.MemoryUnit.{access_of, state_of}
+use Rattle.gg_memunit.specs.MemoryUnit.{memory_machine}
 use Rattle.gg_memunit.proofs.UnitLemmas.{of-sole, of-first, of-put, reads-after, served-few, late-reader, among-ports, serve-step}
 use Rattle.gg_memunit.proofs.unit.MemUnit.serve_port.Goals as goal
 

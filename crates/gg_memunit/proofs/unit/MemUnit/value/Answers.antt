@@ -6,7 +6,8 @@ use Rattle.gg_flat.specs.Memory.{found_word}
 use Rattle.gg_node.specs.Machine.{latched_values, missing}
 use Rattle.gg_node.specs.Token.{IsToken}
 use Rattle.gg_flat.specs.State.{State}
-use Rattle.gg_memunit.specs.MemoryUnit.{memory_machine, state_of}
+use Rattle.gg_memunit.specs.MemoryUnit.{memory_machine}
+use Rattle.gg_memunit.specs.inside.MemoryUnit.{state_of}
 use Rattle.gg_memunit.proofs.UnitLemmas.{of-bank, out-count, same-token, late-token, looks-among}
 use Rattle.gg_memunit.proofs.unit.MemUnit.value.Goals as goal
 

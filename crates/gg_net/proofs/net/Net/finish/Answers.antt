@@ -1,7 +1,7 @@
 use Rattle.std.proofs.Common.{◌<◌, length, map, sym, subst, arith}
 use Rattle.std.proofs.lemmas.List.{length-map}
-use Rattle.gg_net.specs.Net.{net_of}
-use Rattle.gg_net.specs.Stations.{stationed}
+use Rattle.gg_net.specs.inside.Net.{net_of}
+use Rattle.gg_net.specs.inside.Stations.{stationed}
 use Rattle.gg_net.specs.Step.{Ready, GoesOn}
 use Rattle.gg_net.specs.declared.event.Event.TheVariants.{Finish}
 use Rattle.gg_net.proofs.TableLemmas.{finish-can}

@@ -1,6 +1,6 @@
 use Rattle.std.proofs.Common.{map, sym, subst, arith}
 use Rattle.std.specs.Prelude.{slice_set}
-use Rattle.gg_net.specs.Net.{net_of}
+use Rattle.gg_net.specs.inside.Net.{net_of}
 use Rattle.gg_net.specs.Step.{Ready, Gives}
 use Rattle.gg_net.specs.declared.event.Event.TheVariants.{Fire}
 use Rattle.gg_net.proofs.TableLemmas.{fire-can}

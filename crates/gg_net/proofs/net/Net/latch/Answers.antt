@@ -1,6 +1,6 @@
 use Rattle.std.proofs.Common.{map, sym, ap, subst, ◌∙◌, arith}
 use Rattle.gg_net.specs.Step.{Ready, after_latch}
-use Rattle.gg_net.specs.Net.{net_of}
+use Rattle.gg_net.specs.inside.Net.{net_of}
 use Rattle.gg_net.specs.declared.event.Event.TheVariants.{Latch}
 use Rattle.gg_net.proofs.TableLemmas.{latch-can}
 use Rattle.gg_net.proofs.CloseLemmas.{queues-there, consumer-known, latch-held, latch-stationed, latch-may, latch-is, latch-closes}

@@ -1,5 +1,5 @@
 use Rattle.std.proofs.Common.{length, subst}
-use Rattle.gg_net.specs.Net.{AreOpen}
+use Rattle.gg_net.specs.inside.Net.{AreOpen}
 use Rattle.gg_net.proofs.OpenLemmas.{open-is, is-net}
 use Rattle.gg_net.proofs.net.Net.new.Goals as goal
 

@@ -1,8 +1,8 @@
 use Rattle.std.proofs.Common.{◌<◌, length, map, sym, ap, subst, ◌∙◌, arith}
 use Rattle.std.proofs.lemmas.List.{length-map}
-use Rattle.gg_net.specs.Stations.{stationed}
+use Rattle.gg_net.specs.inside.Stations.{stationed}
 use Rattle.gg_net.specs.Step.{Ready, after_serve}
-use Rattle.gg_net.specs.Net.{net_of}
+use Rattle.gg_net.specs.inside.Net.{net_of}
 use Rattle.gg_net.specs.declared.event.Event.TheVariants.{Serve}
 use Rattle.gg_net.proofs.TableLemmas.{serve-can}
 use Rattle.gg_net.proofs.CloseLemmas.{serve-stationed, serve-may, serve-is, serve-closes}

@@ -1,6 +1,6 @@
 use Rattle.std.proofs.Common.{subst}
 use Rattle.gg_net.specs.Network.{Network, frame_of}
-use Rattle.gg_net.specs.Net.{IsWithinLimits}
+use Rattle.gg_net.specs.inside.Net.{IsWithinLimits}
 use Rattle.gg_net.proofs.net.Net.within_limits.Goals as goal
 
 pub returns : goal.returns

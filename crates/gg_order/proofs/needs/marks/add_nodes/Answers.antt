@@ -3,7 +3,7 @@ use Rattle.std.proofs.lemmas.List.{take_all}
 use Rattle.gg_flat.specs.declared.line.Node.{Node}
 use Rattle.gg_flat.specs.Reads.{Names}
 use Rattle.gg_order.proofs.MarkLemmas.{Names-none, Names-at}
-use Rattle.gg_order.specs.needs.Marks.{Adds}
+use Rattle.gg_order.specs.inside.NeedsMarks.{Adds}
 use Rattle.gg_order.proofs.NeedsLemmas.AddLemmas.{Adds-none, Adds-node}
 use Rattle.gg_order.proofs.needs.marks.add_nodes.Goals as goal
 

@@ -2,10 +2,10 @@ use Rattle.std.proofs.Common.{◌≡◌, ℕ, ◌+◌, ◌<◌, List, [], ◌∷
 use Rattle.std.proofs.lemmas.List.{length-append}
 use Rattle.gg_flat.specs.Line.{value_at}
 use Rattle.gg_order.specs.needs.Needs.{AreNeeds}
-use Rattle.gg_order.specs.needs.Walk.{AreMarkedIns}
+use Rattle.gg_order.specs.inside.Walk.{AreMarkedIns}
 use Rattle.gg_order.proofs.NeedsLemmas.MarkedInLemmas.{AreNeeds-marked}
-use Rattle.gg_order.specs.needs.Marks.{marks_of}
-use Rattle.gg_order.specs.needs.Groups.{AreNeedsSoFar}
+use Rattle.gg_order.specs.inside.NeedsMarks.{marks_of}
+use Rattle.gg_order.specs.inside.Groups.{AreNeedsSoFar}
 use Rattle.gg_order.proofs.NeedsLemmas.NeedLemmas.{AreNeedsSoFar-push}
 use Rattle.gg_order.proofs.needs.needs.add_group.Goals as goal
 

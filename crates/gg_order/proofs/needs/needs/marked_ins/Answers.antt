@@ -3,8 +3,8 @@ use Rattle.std.specs.Prelude.{Contains}
 use Rattle.std.proofs.lemmas.List.{get_or_default, take_more, take_all}
 use Rattle.gg_flat.specs.Line.{value_at}
 use Rattle.gg_order.specs.Marks.{is_marked}
-use Rattle.gg_order.specs.needs.Walk.{AreMarkedIns, AreMarkedAmong}
-use Rattle.gg_order.specs.needs.Marks.{marks_of}
+use Rattle.gg_order.specs.inside.Walk.{AreMarkedIns, AreMarkedAmong}
+use Rattle.gg_order.specs.inside.NeedsMarks.{marks_of}
 use Rattle.gg_order.proofs.NeedsLemmas.MarkedInLemmas.{AreMarkedAmong-none, AreMarkedAmong-skip, AreMarkedAmong-push, AreMarkedIns-among, touched-before}
 use Rattle.gg_order.proofs.NeedsLemmas.AddLemmas.{bit-cases, bit-marked, bit-unmarked}
 use Rattle.gg_order.proofs.needs.needs.marked_ins.Goals as goal

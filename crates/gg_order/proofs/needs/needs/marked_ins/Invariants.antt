@@ -1,6 +1,6 @@
 use Rattle.std.proofs.Common.{take}
-use Rattle.gg_order.specs.needs.Walk.{AreMarkedAmong}
-use Rattle.gg_order.specs.needs.Marks.{marks_of}
+use Rattle.gg_order.specs.inside.Walk.{AreMarkedAmong}
+use Rattle.gg_order.specs.inside.NeedsMarks.{marks_of}
 use Rattle.gg_order.proofs.needs.needs.marked_ins.Given as goal
 
 abbrev pub invariant-loop-each : goal.invariant-loop-each

@@ -1,5 +1,5 @@
 use Rattle.std.proofs.Common.{◌-◌, length}
-use Rattle.gg_order.specs.needs.Groups.{AreNeedsSoFar}
+use Rattle.gg_order.specs.inside.Groups.{AreNeedsSoFar}
 use Rattle.gg_order.proofs.needs.needs.needs_of.Given as goal
 
 abbrev pub invariant-loop-alloc : goal.invariant-loop-alloc

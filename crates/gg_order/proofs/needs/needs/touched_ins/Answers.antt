@@ -3,8 +3,8 @@ use Rattle.gg_flat.specs.declared.piece.Driver.TheVariants.{Input}
 use Rattle.gg_flat.specs.Circuit.{driver_at}
 use Rattle.gg_flat.specs.Line.{value_at}
 use Rattle.gg_order.specs.Marks.{is_marked}
-use Rattle.gg_order.specs.needs.Walk.{AreMarkedIns}
-use Rattle.gg_order.specs.needs.Marks.{any_marks}
+use Rattle.gg_order.specs.inside.Walk.{AreMarkedIns}
+use Rattle.gg_order.specs.inside.NeedsMarks.{any_marks}
 use Rattle.gg_order.proofs.NeedsLemmas.MarkedInLemmas.{AreMarkedIns-skip, AreMarkedIns-push}
 use Rattle.gg_order.proofs.NeedsLemmas.AddLemmas.{any-some, any-none}
 use Rattle.gg_order.proofs.needs.needs.touched_ins.Goals as goal

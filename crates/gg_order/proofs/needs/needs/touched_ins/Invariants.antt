@@ -1,5 +1,5 @@
-use Rattle.gg_order.specs.needs.Walk.{AreMarkedIns}
-use Rattle.gg_order.specs.needs.Marks.{any_marks}
+use Rattle.gg_order.specs.inside.Walk.{AreMarkedIns}
+use Rattle.gg_order.specs.inside.NeedsMarks.{any_marks}
 use Rattle.gg_order.proofs.needs.needs.touched_ins.Given as goal
 
 abbrev pub invariant-loop-signal : goal.invariant-loop-signal

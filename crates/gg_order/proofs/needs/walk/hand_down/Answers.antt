@@ -1,6 +1,6 @@
 use Rattle.std.proofs.Common.{◌≡◌, ◌+◌, ◌-◌, List, length, refl, subst, ap, arith}
 use Rattle.gg_flat.specs.declared.piece.Signal.{Signal}
-use Rattle.gg_order.specs.needs.Walk.{HandsOn}
+use Rattle.gg_order.specs.inside.Walk.{HandsOn}
 use Rattle.gg_order.proofs.NeedsLemmas.WalkLemmas.{AreWalks-start, AreWalks-step, AreWalks-end}
 use Rattle.gg_order.proofs.needs.walk.hand_down.Goals as goal
 

@@ -4,7 +4,7 @@ use Rattle.gg_flat.specs.Circuit.{driver_at}
 use Rattle.gg_flat.specs.declared.piece.Driver.{Driver}
 use Rattle.gg_flat.specs.declared.piece.Signal.{Signal}
 use Rattle.gg_flat.specs.Reads.{NamesSignal}
-use Rattle.gg_order.specs.Marks.{driver_of}
+use Rattle.gg_order.specs.inside.Marks.{driver_of}
 use Rattle.gg_order.proofs.MarkLemmas.{driver_of-at}
 use Rattle.gg_order.proofs.ReadLemmas.{names_within}
 use Rattle.gg_order.proofs.needs.walk.hand_on.Goals as goal

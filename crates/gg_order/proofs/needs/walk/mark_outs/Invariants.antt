@@ -1,5 +1,5 @@
 use Rattle.std.proofs.Common.{length}
-use Rattle.gg_order.specs.needs.Walk.{AreOwn}
+use Rattle.gg_order.specs.inside.Walk.{AreOwn}
 use Rattle.gg_order.proofs.needs.walk.mark_outs.Given as goal
 
 abbrev pub invariant-loop-place : goal.invariant-loop-place

@@ -3,7 +3,8 @@ use Rattle.std.specs.Prelude.{slice_set}
 use Rattle.gg_flat.specs.Line.{value_at}
 use Rattle.gg_flat.specs.WellFormed.{IsWellFormed}
 use Rattle.gg_program.specs.Programmed.{Programmed}
-use Rattle.gg_program.specs.Slots.{Slotted, with_input, inputs_in}
+use Rattle.gg_program.specs.Slots.{Slotted, inputs_in}
+use Rattle.gg_program.specs.inside.Slots.{with_input}
 use Rattle.gg_program.specs.Right.{InCycle}
 use Rattle.gg_program.proofs.RightLemmas.{inputs-put}
 use Rattle.gg_program.proofs.EvaluateLemmas.{values-count}

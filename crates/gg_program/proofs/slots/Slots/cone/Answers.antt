@@ -4,8 +4,9 @@ use Rattle.std.proofs.lemmas.List.{with_items_is}
 use Rattle.std.specs.Vec.{with_items}
 use Rattle.gg_order.specs.Marks.{is_marked}
 use Rattle.gg_program.specs.Slots.{Slotted}
-use Rattle.gg_program.specs.Right.{AreRight, InCycle, IsInner}
-use Rattle.gg_program.specs.Search.{IsGathered, StandBehind}
+use Rattle.gg_program.specs.Right.{AreRight, InCycle}
+use Rattle.gg_program.specs.inside.Right.{IsInner}
+use Rattle.gg_program.specs.inside.Search.{IsGathered, StandBehind}
 use Rattle.gg_program.proofs.GatherLemmas.{IsGathered-moved}
 use Rattle.gg_program.proofs.CycleLemmas.{StandBehind-sorted, found-inner, InCycle-reached, DoneWith-gathered}
 use Rattle.gg_program.specs.Unset.{unset_among}

@@ -1,5 +1,5 @@
 use Rattle.std.proofs.Common.{◌≡◌, map, take}
-use Rattle.gg_replay.specs.Log.{opening_log}
+use Rattle.gg_replay.specs.inside.Log.{opening_log}
 use Rattle.gg_replay.proofs.log.Log.new.Given as goal
 
 abbrev pub invariant-loop-wire : goal.invariant-loop-wire

@@ -1,11 +1,11 @@
 use Rattle.std.proofs.Common.{arith, ◌≡◌, ◌%◌, ap, sym, ◌∙◌, refl}
 use Rattle.std.proofs.Math.Nat.{mod-lt}
-use Rattle.gg_ring.specs.Views.{loaded_high}
+use Rattle.gg_ring.specs.inside.Views.{loaded_high}
 use Rattle.std.proofs.Common.{slice_index, Some}
 use Rattle.std.proofs.lemmas.Option.{slice_get-get_or}
 use Rattle.gg_ring.specs.declared.rule.View.{View}
 use Rattle.gg_ring.proofs.StepLemmas.{loads_low, loads_high, stores_head}
-use Rattle.gg_ring.specs.Rule.{low, high}
+use Rattle.gg_ring.specs.inside.Rule.{low, high}
 use Rattle.gg_ring.proofs.HalfLemmas.{joined-value}
 use Rattle.gg_ring.proofs.ring.Ring.load_value.Goals as goal
 

@@ -1,7 +1,7 @@
 use Rattle.std.proofs.Common.{arith, ap, sym, ◌∙◌, ◌≡◌, ◌%◌, ◌+◌, refl}
 use Rattle.std.proofs.Math.Nat.{mod-lt}
 use Rattle.std.proofs.lemmas.Option.{get_or_from_slice_get, slice_get_within}
-use Rattle.gg_ring.specs.Rule.{low, high}
+use Rattle.gg_ring.specs.inside.Rule.{low, high}
 use Rattle.gg_ring.proofs.StepLemmas.{stores_low, stores_high, stores_tail}
 use Rattle.gg_ring.proofs.ring.Ring.store_value.Goals as goal
 
@@ -52,7 +52,7 @@ store-requires-3 c =
     let words = link.sized.0 in
     let one = c.store.ensures in
     let two = c.store-2.ensures in
-    let view = ap (λ m. m.0) two.2 ∙ ap (λ v. Rattle.gg_ring.specs.Views.stored_to v 2) (ap (λ m. m.0) one.2) in
+    let view = ap (λ m. m.0) two.2 ∙ ap (λ v. Rattle.gg_ring.specs.inside.Views.stored_to v 2) (ap (λ m. m.0) one.2) in
     let more = slice_get_within seat.seat.me.0.stream seat.puts c.args.value c.requires.value in (
       two.0 ∙ one.0 ∙ c.requires.seat.0,
       omega arith,
@@ -70,7 +70,7 @@ invariant_of-seat c =
     let one = c.store.ensures in
     let two = c.store-2.ensures in
     let three = c.store-3.ensures in
-    let view = ap (λ m. m.0) three.2 ∙ ap (λ v. Rattle.gg_ring.specs.Views.has_put v) (ap (λ m. m.0) two.2 ∙ ap (λ v. Rattle.gg_ring.specs.Views.stored_to v 2) (ap (λ m. m.0) one.2)) in
+    let view = ap (λ m. m.0) three.2 ∙ ap (λ v. Rattle.gg_ring.specs.inside.Views.has_put v) (ap (λ m. m.0) two.2 ∙ ap (λ v. Rattle.gg_ring.specs.inside.Views.stored_to v 2) (ap (λ m. m.0) one.2)) in
     let more = slice_get_within seat.seat.me.0.stream seat.puts c.args.value c.requires.value in
     record {
       rests = (ap (λ m. m.1) three.2 ∙ ap (λ m. m.1) two.2 ∙ ap (λ m. m.1) one.2 ∙ at.0, ap (λ v. v.puts) view ∙ at.1, ap (λ v. v.takes) view ∙ at.2, ap (λ v. v.stored) view);

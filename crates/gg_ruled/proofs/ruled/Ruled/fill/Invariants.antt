@@ -1,7 +1,7 @@
 use Rattle.std.proofs.Common.{◌≡◌, ◌+◌, length, List, ℕ, ◌++◌}
 use Rattle.std.specs.VecDeque.{deque_items, deque_len, deque_capacity}
 use Rattle.crossbeam_queue.specs.Passes.{view}
-use Rattle.gg_ruled.specs.Seats.{IsPutSeatOf}
+use Rattle.gg_ruled.specs.inside.Seats.{IsPutSeatOf}
 use Rattle.gg_ruled.proofs.ruled.Ruled.fill.Given as goal
 
 abbrev pub invariant-loop-value : goal.invariant-loop-value

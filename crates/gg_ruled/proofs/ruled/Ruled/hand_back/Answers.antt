@@ -1,6 +1,6 @@
 use Rattle.std.proofs.Common.{ap, arith, ◌∙◌, sym, ◌≡◌, slice_get, Some}
 use Rattle.std.proofs.lemmas.Option.{get_or_from_slice_get, slice_get_within}
-use Rattle.gg_ruled.specs.Rule.{has_taken}
+use Rattle.gg_ruled.specs.inside.Rule.{has_taken}
 use Rattle.gg_link.proofs.StreamLemmas.{one_more, pushed_behind}
 use Rattle.crossbeam_queue.specs.Passes.{view}
 use Rattle.gg_ruled.proofs.StepLemmas.{joins, pops, take_learns}

@@ -1,7 +1,7 @@
 use Rattle.std.proofs.Common.{◌≡◌, ◌+◌, ◌-◌, ◌++◌, take, drop}
 use Rattle.std.specs.VecDeque.{deque_items, deque_len, deque_capacity}
 use Rattle.crossbeam_queue.specs.Passes.{view, IsPassOf}
-use Rattle.gg_ruled.specs.Rule.{whole}
+use Rattle.gg_ruled.specs.inside.Rule.{whole}
 use Rattle.gg_ruled.proofs.ruled.Ruled.hand_back.Given as goal
 
 abbrev pub invariant-loop-k : goal.invariant-loop-k

@@ -1,5 +1,5 @@
 use Rattle.std.proofs.Common.{◌++◌, ◌∷◌, [], map, ap, ◌∙◌}
-use Rattle.gg_shape.specs.Told.{reference_of, is_among}
+use Rattle.gg_shape.specs.inside.Told.{reference_of, is_among}
 use Rattle.gg_shape.proofs.ConnectedLemmas.{among-inserted}
 use Rattle.gg_shape.proofs.connected.Connected.add.Goals as goal
 use Rattle.gg_shape.proofs.connected.Connected.add.Goals.{in-Ok, in-Err}

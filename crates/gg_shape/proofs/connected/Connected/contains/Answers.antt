@@ -1,5 +1,5 @@
 use Rattle.std.proofs.Common.{ap, ◌∙◌}
-use Rattle.gg_shape.specs.Told.{reference_of, is_among}
+use Rattle.gg_shape.specs.inside.Told.{reference_of, is_among}
 use Rattle.gg_shape.proofs.ConnectedLemmas.{among-own}
 use Rattle.gg_shape.proofs.connected.Connected.contains.Goals as goal
 

@@ -1,5 +1,5 @@
 use Rattle.std.proofs.Common.{◌≡◌, map, filter, take}
-use Rattle.gg_shape.specs.Told.{is_input}
+use Rattle.gg_shape.specs.inside.Told.{is_input}
 use Rattle.gg_shape.proofs.unconnected.Inputs.of.Given as goal
 
 abbrev pub invariant-loop-port : goal.invariant-loop-port

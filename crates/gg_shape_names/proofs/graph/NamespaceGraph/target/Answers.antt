@@ -1,6 +1,7 @@
 use Rattle.std.proofs.Common.{◌≡◌, ℕ, IfSome, IfNone, ◌⊎◌, subst}
 use Rattle.gg_ast.specs.Tree.{CircuitTree}
-use Rattle.gg_shape_names.specs.Modules.{Holds, HoldsBelow}
+use Rattle.gg_shape_names.specs.Modules.{Holds}
+use Rattle.gg_shape_names.specs.inside.Modules.{HoldsBelow}
 use Rattle.gg_shape_names.proofs.graph.NamespaceGraph.target.Goals as goal
 
 pub returns-clause-first : goal.returns-clause-first

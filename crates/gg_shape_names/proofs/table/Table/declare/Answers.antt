@@ -1,7 +1,7 @@
 use Rattle.std.proofs.Common.{◌≡◌, false, ◌++◌, ◌∷◌, [], ap, ◌∙◌, is_some}
 use Rattle.std.specs.List.{list_any}
 use Rattle.std.specs.Str.{bytes_eq}
-use Rattle.gg_shape_names.specs.Tables.{names_told}
+use Rattle.gg_shape_names.specs.inside.Tables.{names_told}
 use Rattle.gg_bits.specs.Lists.{find_word}
 use Rattle.gg_shape_names.proofs.TableLemmas.{lookup-seen, seen-push, seen, none-is_some, some-value_of}
 use Rattle.indexmap.proofs.CallerLemmas.{insert_entry-new}

@@ -1,7 +1,7 @@
 use Rattle.std.proofs.Common.{ap, ◌∙◌, is_some}
 use Rattle.std.specs.List.{list_any}
 use Rattle.std.specs.Str.{bytes_eq}
-use Rattle.gg_shape_names.specs.Tables.{names_told}
+use Rattle.gg_shape_names.specs.inside.Tables.{names_told}
 use Rattle.gg_shape_names.proofs.TableLemmas.{lookup-seen, seen, some-value_of}
 use Rattle.gg_shape_names.proofs.table.Table.has.Goals as goal
 

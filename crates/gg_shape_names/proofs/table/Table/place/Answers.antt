@@ -1,6 +1,6 @@
 use Rattle.std.proofs.Common.{ap, ◌∙◌}
 use Rattle.gg_ast.specs.Places.{place_of}
-use Rattle.gg_shape_names.specs.Tables.{names_told}
+use Rattle.gg_shape_names.specs.inside.Tables.{names_told}
 use Rattle.gg_shape_names.proofs.TableLemmas.{position-seen, seen}
 use Rattle.gg_shape_names.proofs.table.Table.place.Goals as goal
 

@@ -2,7 +2,7 @@ use Rattle.std.proofs.Common.{◌≡◌, ◌<◌, ℕ, List, length, drop, get_o
 use Rattle.std.proofs.lemmas.List.{get_or_default, length-set}
 use Rattle.gg_flat.specs.Line.{value_at}
 use Rattle.gg_flat.specs.Memory.{Bank, bank_at}
-use Rattle.gg_snap.specs.text.Parts.{HasSizeOf, put}
+use Rattle.gg_snap.specs.inside.Parts.{HasSizeOf, put}
 use Rattle.gg_snap.proofs.TextLemmas.PartLemmas.{size-then, sizes-set, no_bank, put-more}
 use Rattle.gg_snap.proofs.text.draft.put_banks.Goals as goal
 

@@ -1,6 +1,6 @@
 use Rattle.std.proofs.Common.{◌≡◌, ℕ, drop, length}
 use Rattle.gg_flat.specs.Memory.{bank_at}
-use Rattle.gg_snap.specs.text.Parts.{HasSizeOf, put}
+use Rattle.gg_snap.specs.inside.Parts.{HasSizeOf, put}
 use Rattle.gg_snap.proofs.text.draft.put_banks.Given as goal
 
 abbrev pub invariant-loop-i : goal.invariant-loop-i

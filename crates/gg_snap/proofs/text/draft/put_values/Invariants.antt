@@ -1,5 +1,5 @@
 use Rattle.std.proofs.Common.{◌≡◌, drop, length}
-use Rattle.gg_snap.specs.text.Parts.{put}
+use Rattle.gg_snap.specs.inside.Parts.{put}
 use Rattle.gg_snap.proofs.text.draft.put_values.Given as goal
 
 abbrev pub invariant-loop-i : goal.invariant-loop-i

@@ -1,6 +1,6 @@
 use Rattle.std.proofs.Common.{◌∷◌, refl, ap₂, ◌∙◌}
 use Rattle.std.proofs.lemmas.Option.{MatchOption-at_none}
-use Rattle.gg_snap.specs.text.Heading.{NotFirst, NotSecond}
+use Rattle.gg_snap.specs.inside.Heading.{NotFirst, NotSecond}
 use Rattle.gg_snap.specs.text.Standing.{pieces}
 use Rattle.gg_snap.proofs.text.heading.read_heading.Goals as goal
 

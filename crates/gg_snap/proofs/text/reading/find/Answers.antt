@@ -2,7 +2,7 @@ use Rattle.std.proofs.Common.{◌+◌, ◌++◌, refl, sym, ap, ◌∙◌, arith
 use Rattle.gg_snap.specs.declared.text.reading.Cursor.{Cursor}
 use Rattle.gg_snap.specs.declared.text.row.Row.{Row}
 use Rattle.gg_snap.specs.text.Lines.{head_of}
-use Rattle.gg_snap.specs.text.Places.{behind}
+use Rattle.gg_snap.specs.inside.Places.{behind}
 use Rattle.gg_snap.proofs.TextLemmas.FindLemmas.{skip-row, skips-then}
 use Rattle.gg_snap.proofs.text.reading.find.Goals as goal
 

@@ -1,5 +1,5 @@
 use Rattle.std.proofs.Common.{length, ◌-◌, ◌≤◌}
-use Rattle.gg_snap.specs.text.Places.{Skips, behind}
+use Rattle.gg_snap.specs.inside.Places.{Skips, behind}
 use Rattle.gg_snap.proofs.text.reading.find.Given as goal
 
 abbrev pub invariant-loop-cursor : goal.invariant-loop-cursor

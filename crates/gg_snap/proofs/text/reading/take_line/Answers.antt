@@ -2,10 +2,10 @@ use Rattle.std.proofs.Common.{◌≢◌, ◌≤◌, ◌<◌, ◌^◌, ◌+◌, �
 use Rattle.std.proofs.lemmas.Option.{MatchOption-at_none, MatchOption-at_some}
 use Rattle.gg_snap.specs.declared.text.reading.Cursor.{Cursor}
 use Rattle.gg_snap.specs.declared.text.row.Row.{Row}
-use Rattle.gg_snap.specs.text.Draft.{with_value}
+use Rattle.gg_snap.specs.inside.Draft.{with_value}
 use Rattle.gg_snap.specs.text.Known.{IsKnown}
 use Rattle.gg_snap.specs.text.Lines.{line_of}
-use Rattle.gg_snap.specs.text.Places.{behind}
+use Rattle.gg_snap.specs.inside.Places.{behind}
 use Rattle.gg_snap.proofs.TextLemmas.DraftLemmas.{has-value}
 use Rattle.gg_snap.proofs.TextLemmas.FindLemmas.{none-here, row-known, skips-line, skips-taken, taken-here}
 use Rattle.gg_snap.proofs.text.reading.take_line.Goals as goal

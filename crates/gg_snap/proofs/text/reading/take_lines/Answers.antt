@@ -2,7 +2,7 @@ use Rattle.std.proofs.Common.{◌≡◌, Some, length, sym, subst, arith}
 use Rattle.std.specs.Bool.{OnFalse, OnTrue}
 use Rattle.std.proofs.lemmas.Bool.Decides.{nat_tests}
 use Rattle.gg_flat.specs.State.{IsState, State}
-use Rattle.gg_snap.specs.text.Places.{Ends, IsLineOfNone, IsTaken, behind}
+use Rattle.gg_snap.specs.inside.Places.{Ends, IsLineOfNone, IsTaken, behind}
 use Rattle.gg_snap.specs.text.Standing.{pieces}
 use Rattle.gg_snap.proofs.TextLemmas.ReadLemmas.{reads-all, reads-begin, reads-step, reads-stop}
 use Rattle.gg_snap.proofs.text.reading.take_lines.Goals as goal

@@ -5,7 +5,7 @@ use Rattle.gg_snap.specs.declared.text.row.Row.{Row}
 use Rattle.gg_snap.specs.declared.text.fault.SnapFault.{SnapFault}
 use Rattle.gg_snap.specs.declared.text.fault.SnapFault.TheVariants.{S1, NoMemory}
 use Rattle.gg_snap.specs.text.Known.{AreKnown}
-use Rattle.gg_snap.specs.text.Places.{Ends}
+use Rattle.gg_snap.specs.inside.Places.{Ends}
 use Rattle.gg_snap.specs.text.Standing.{IfFault, IsSnap}
 use Rattle.gg_snap.proofs.TextLemmas.SnapLemmas.{heading-fault, read-all, read-stops}
 use Rattle.gg_snap.proofs.text.snap.read_snap.Goals as goal

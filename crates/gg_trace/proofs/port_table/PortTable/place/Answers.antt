@@ -1,5 +1,6 @@
 use Rattle.std.proofs.Common.{MatchOption, length, sym, ◌∙◌, subst}
-use Rattle.gg_trace.specs.Ports.{IsNamed, NamesNone}
+use Rattle.gg_trace.specs.Ports.{IsNamed}
+use Rattle.gg_trace.specs.inside.Ports.{NamesNone}
 use Rattle.gg_trace.proofs.NameLaws.{all_told, Tells}
 use Rattle.gg_trace.proofs.port_table.PortTable.place.Goals as goal
 

@@ -1,6 +1,6 @@
 use Rattle.std.proofs.Common.{◌<◌, [], get_or, length, sym, ap, ◌∙◌, subst, arith}
 use Rattle.std.proofs.lemmas.Result.{IfOk-weaker}
-use Rattle.gg_trace.specs.Table.{Table}
+use Rattle.gg_trace.specs.inside.Table.{Table}
 use Rattle.gg_trace.proofs.TableLaws.{length-columns, column_at, column_in}
 use Rattle.gg_trace.proofs.trace_table.Trace.column.Goals as goal
 

@@ -1,5 +1,5 @@
 use Rattle.std.proofs.Common.{◌≤◌, map, take, sym, ap, ◌∙◌, subst}
-use Rattle.gg_trace.specs.Table.{Table, table_of}
+use Rattle.gg_trace.specs.inside.Table.{Table, table_of}
 use Rattle.gg_trace.proofs.TableLaws.{first-rows}
 use Rattle.gg_trace.proofs.trace_table.Trace.first_rows.Goals as goal
 

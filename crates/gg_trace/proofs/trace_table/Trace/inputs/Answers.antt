@@ -1,5 +1,5 @@
 use Rattle.std.proofs.Common.{◌≡◌, length, sym, subst}
-use Rattle.gg_trace.specs.Table.{Table}
+use Rattle.gg_trace.specs.inside.Table.{Table}
 use Rattle.gg_trace.proofs.TableLaws.{length-columns}
 use Rattle.gg_trace.proofs.trace_table.Trace.inputs.Goals as goal
 

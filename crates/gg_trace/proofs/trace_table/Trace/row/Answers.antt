@@ -1,6 +1,7 @@
 use Rattle.std.proofs.Common.{[], ◌≡◌, get_or, ◌+◌, ◌-◌, ◌*◌, ◌<◌, List, ℕ, length, take, drop, sym, ap, ◌∙◌, subst, arith}
 use Rattle.std.proofs.lemmas.List.{length-map, get_or-map}
-use Rattle.gg_trace.specs.Table.{Table, row_of}
+use Rattle.gg_trace.specs.inside.Table.{Table}
+use Rattle.gg_trace.specs.Table.{row_of}
 use Rattle.gg_trace.proofs.TableLaws.{row_in}
 use Rattle.gg_trace.proofs.trace_table.Trace.row.Goals as goal
 

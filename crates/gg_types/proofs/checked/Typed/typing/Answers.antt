@@ -1,5 +1,5 @@
 use Rattle.std.proofs.Common.{◌<◌, length, sym, subst}
-use Rattle.gg_types.specs.Typed.{TypedTree}
+use Rattle.gg_types.specs.inside.Typed.{TypedTree}
 use Rattle.gg_types.proofs.WidthLemmas.{IsWide, typing-wide}
 use Rattle.gg_types.proofs.checked.Typed.typing.Goals as goal
 

@@ -1,6 +1,6 @@
 use Rattle.std.proofs.Common.{subst}
 use Rattle.gg_bridge.specs.Model.{IsModel}
-use Rattle.golden_fifo.specs.Fifo.{Kept, fifo_piece}
+use Rattle.golden_fifo.specs.inside.Fifo.{Kept, fifo_piece}
 use Rattle.golden_fifo.proofs.FifoLemmas.{fifo-model}
 use Rattle.golden_fifo.proofs.fifo.FifoBridge.model.Goals as goal
 

@@ -1,6 +1,6 @@
 use Rattle.std.proofs.Common.{refl}
 use Rattle.std.proofs.lemmas.List.Elements.{All-weaker}
-use Rattle.gg_front.specs.Paths.{IsPath, IsSignalPath, is_path_byte, is_signal_byte}
+use Rattle.gg_front.specs.inside.Paths.{IsPath, IsSignalPath, is_path_byte, is_signal_byte}
 use Rattle.gg_front.proofs.HeldLemmas.{held-once}
 use Rattle.gg_front.proofs.PortLemmas.{have-paths}
 use Rattle.gg_snap.specs.text.Known.{IsPlain}

@@ -2,7 +2,7 @@ use Rattle.std.proofs.Common.{◌≡◌, ◌++◌, ℕ, List, arith, length, tak
 use Rattle.std.proofs.lemmas.List.{take_at}
 use Rattle.gg_flat.specs.Memory.{Bank, bank_at}
 use Rattle.gg_flat.specs.State.{State}
-use Rattle.gg_snap.specs.text.Parts.{HasPart, HasSizeOf, put}
+use Rattle.gg_snap.specs.inside.Parts.{HasPart, HasSizeOf, put}
 use Rattle.gg_snap.proofs.TextLemmas.PartLemmas.{part-put}
 use Rattle.gg_snap.proofs.text.draft.Draft.put_part.Goals as goal
 

@@ -1,0 +1,12 @@
+-- Definitions that no promise of the program speaks of: those of single functions, and those of proofs.
+pub mod Begin
+pub mod Bridges
+pub mod Groups
+pub mod Hosts
+pub mod Node
+pub mod Wires
+pub mod Alone
+pub mod Build
+pub mod Built
+pub mod CutLayout
+pub mod Each

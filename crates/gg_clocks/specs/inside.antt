@@ -1,0 +1,2 @@
+-- Definitions that no promise of the program speaks of: those of single functions, and those of proofs.
+pub mod Edges

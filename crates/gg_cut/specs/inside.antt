@@ -1,0 +1,3 @@
+-- Definitions that no promise of the program speaks of: those of single functions, and those of proofs.
+pub mod Drafted
+pub mod Made

@@ -1,0 +1,11 @@
+-- Definitions that no promise of the program speaks of: those of single functions, and those of proofs.
+pub mod Named
+pub mod Owners
+pub mod Bridges
+pub mod Channels
+pub mod Direct
+pub mod Listed
+pub mod Machines
+pub mod Plan
+pub mod Seated
+pub mod Solves

@@ -1,0 +1,13 @@
+-- Definitions that no promise of the program speaks of: those of single functions, and those of proofs.
+pub mod Beginning
+pub mod CanSplit
+pub mod IsShare
+pub mod Share
+pub mod Spread
+pub mod Again
+pub mod StandAgain
+pub mod Apart
+pub mod Closed
+pub mod CutChannels
+pub mod Longest
+pub mod OwnersByPath

@@ -1,0 +1,11 @@
+-- Definitions that no promise of the program speaks of: those of single functions, and those of proofs.
+pub mod Form
+pub mod Along
+pub mod InOrder
+pub mod Line
+pub mod Named
+pub mod Ports
+pub mod Renaming
+pub mod Run
+pub mod Served
+pub mod Settled

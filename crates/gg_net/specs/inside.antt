@@ -1,0 +1,16 @@
+-- Definitions that no promise of the program speaks of: those of single functions, and those of proofs.
+pub mod Parted
+pub mod Queue
+pub mod Readings
+pub mod Stations
+pub mod TrayLaws
+pub mod Fits
+pub mod LayoutOf
+pub mod Leads
+pub mod MarkingLaws
+pub mod ProgressLaws
+pub mod Net
+pub mod Network
+pub mod Step
+pub mod Counts
+pub mod Measure

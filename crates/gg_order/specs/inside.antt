@@ -1,0 +1,12 @@
+-- Definitions that no promise of the program speaks of: those of single functions, and those of proofs.
+pub mod Fault
+pub mod Places
+pub mod Groups
+pub mod NeedsMarks
+pub mod Walk
+pub mod AccessLaws
+pub mod AgreeLaws
+pub mod Lent
+pub mod RunLaws
+pub mod SettledLaws
+pub mod Marks

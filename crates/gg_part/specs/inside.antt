@@ -1,0 +1,12 @@
+-- Definitions that no promise of the program speaks of: those of single functions, and those of proofs.
+pub mod Choice
+pub mod Clocking
+pub mod Domains
+pub mod Local
+pub mod Numbers
+pub mod PartsMove
+pub mod RunsOfParts
+pub mod StandsAgain
+pub mod Building
+pub mod Part
+pub mod PartRun

@@ -1,0 +1,4 @@
+-- Definitions that no promise of the program speaks of: those of single functions, and those of proofs.
+pub mod Kept
+pub mod RunByCycles
+pub mod Cycle

@@ -1,0 +1,3 @@
+-- Definitions that no promise of the program speaks of: those of single functions, and those of proofs.
+pub mod Rule
+pub mod Views

@@ -1,0 +1,11 @@
+-- Definitions that no promise of the program speaks of: those of single functions, and those of proofs.
+pub mod Folded
+pub mod NetOfPlan
+pub mod RunPrinted
+pub mod RunTaken
+pub mod Taken
+pub mod Trays
+pub mod Window
+pub mod Printed
+pub mod Rows
+pub mod Sums

@@ -1,0 +1,12 @@
+-- More on FaultText: what no promise of the program's speaks of.
+use Rattle.std.specs.Prelude.{ℕ, List, codes}
+use Rattle.gg_shape.specs.declared.fault.CheckFault.{CheckFault}
+use Rattle.gg_shape.specs.declared.fault.CheckFault.TheVariants as refusals
+use Rattle.gg_shape.specs.FaultText.{fault_text}
+
+-- ---- faults
+
+-- what a check returns in place of Ok
+abbrev pub refusal_text : CheckFault → List ℕ
+refusal_text (refusals.F fault) = fault_text fault
+refusal_text refusals.NoMemory = codes "out of memory"

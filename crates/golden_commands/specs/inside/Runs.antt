@@ -1,0 +1,84 @@
+-- The runs of networks that `save` and `resume` do, and what they report.
+-- Source: this program's own. MEMOCODE 2009 (a network of machines has the streams of the synchronous circuit that it was cut from, from
+-- any state on).
+use Rattle.std.specs.Prelude.{◌≡◌, ℕ, ◌-◌, ◌<◌, ◌≤◌, ◌++◌, ◌⊎◌, List, [], Option, None, Some, map, replicate, take}
+use Rattle.gg_flat.specs.Along.{rows_from}
+use Rattle.gg_flat.specs.Run.{state_at}
+use Rattle.gg_flat.specs.State.{State}
+use Rattle.gg_flat.specs.Streams.{Flow}
+use Rattle.gg_order.specs.Design.{Ordered}
+use Rattle.gg_cut_reference.specs.Follows.{plan_start}
+use Rattle.gg_cut_reference.specs.Made.{plan_reference}
+use Rattle.gg_build.specs.plan.Built.{flow_of}
+use Rattle.gg_build.specs.Build.{circuit_order}
+use Rattle.gg_cut_reference.specs.whole.Whole.{plan_begin, plan_circuit}
+use Rattle.gg_cut_plan.specs.Bridges.{Models}
+use Rattle.gg_rows.specs.inside.Printed.{IsFirst, ends_run}
+use Rattle.gg_rows.specs.Printed.{plan_stops}
+use Rattle.gg_snap.specs.text.FaultText.{fault_words}
+use Rattle.gg_snap.specs.text.Lines.{snap_text}
+use Rattle.gg_snap.specs.text.Standing.{IsFirstFault, IsSnap}
+use Rattle.gg_snap.specs.text.Table.{rows_of}
+use Rattle.gg_snap.specs.declared.text.fault.SnapFault.TheVariants.{S1}
+use Rattle.gg_io.specs.Said.{Said}
+use Rattle.golden_commands.specs.Lines.{few_rows, snap_fault}
+use Rattle.golden_commands.specs.Meant.{Meant}
+use Rattle.golden_commands.specs.inside.Replayed.{IsToReplay}
+use Rattle.golden_commands.specs.Resumed.{start_at}
+use Rattle.golden_commands.specs.RunText.{shown_ports}
+use Rattle.golden_commands.specs.declared.case.Fed.{Fed}
+
+-- ---- what was read
+
+-- the design, the request and the columns that were read
+abbrev pub meant_by : Fed → Meant
+meant_by fed = record { design = fed.case.design; request = fed.case.cut.request; cycles = fed.trace.rows; columns = fed.trace.columns }
+
+-- the same, with the first rows of the trace alone
+abbrev pub upto : (rows : ℕ) → Fed → Fed
+upto rows fed = record { case = fed.case; trace = record { rows = rows; columns = map (take rows) fed.trace.columns } }
+
+-- The same, with the rows of the trace before cycle `at` alone.
+pub record IsUpto (whole : Fed) (at : ℕ) (fed : Fed) : Type 0 where
+  pub is : fed ≡ upto fed.trace.rows whole
+  pub within : fed.trace.rows ≤ whole.trace.rows
+  pub below : fed.trace.rows ≤ at
+  -- no more rows than `at`, and all that the trace has of these
+  pub most : (fed.trace.rows ≡ at) ⊎ (fed.trace.rows ≡ whole.trace.rows)
+
+-- ---- `save`
+
+-- this is the first cycle in which a stop ends a run of `cycles` cycles, of which the first ones are run
+abbrev pub FindsStop : (fed : Fed) {flow : Flow} (run : IsToReplay fed flow) (cycles : ℕ) → Option ℕ → Type 0
+FindsStop fed run cycles stop = IsFirst (ends_run (plan_stops run.design run.request) (plan_circuit run.design run.request run.models) (shown_ports run.design run.request) run.rows cycles) fed.trace.rows stop
+
+-- the text of the snapshot of the reference circuit after the cycles that are run; the request asks for no bridge
+abbrev pub text_after : (fed : Fed) {flow : Flow} (run : IsToReplay fed flow) → List ℕ
+text_after fed run =
+    snap_text (rows_of (plan_reference run.design run.request) run.design.tree) fed.trace.rows
+    (state_at (plan_reference run.design run.request) (plan_start run.design run.request) run.rows fed.trace.rows)
+
+-- This is reported, since a run of `cycles` cycles doesn't come to cycle `at`: a stop ends it, or it has too few cycles.
+pub data TellsEarly (fed : Fed) {flow : Flow} (run : IsToReplay fed flow) (cycles at : ℕ) (said : Said) : Type 0 where
+  Halted : (stop : ℕ) (first : FindsStop fed run cycles (Some stop)) (is : said ≡ few_rows at stop) → TellsEarly fed run cycles at said
+  Short : (none : FindsStop fed run cycles None) (few : cycles < at) (is : said ≡ few_rows at cycles) → TellsEarly fed run cycles at said
+
+-- ---- `resume`
+
+-- the rows, by cycle, of the run of the plan's circuit from a cycle and a state on, computed along its order
+abbrev pub resumed_rows : Models → Fed → (cycle : ℕ) → State → List (List ℕ)
+resumed_rows models fed cycle state =
+    replicate cycle []
+    ++ rows_from (plan_circuit fed.case.design fed.case.cut.request models) (circuit_order fed.case.design fed.case.cut.request models)
+    (plan_begin fed.case.design fed.case.cut.request models (start_at (meant_by fed) cycle state)) fed.trace.columns (fed.trace.rows - cycle)
+
+-- what the plan's network computes from there
+abbrev pub resumed_flow : Models → Fed → (cycle : ℕ) → State → Flow
+resumed_flow models fed cycle state = flow_of fed.case.design fed.case.cut.request fed.case.cut.plan (start_at (meant_by fed) cycle state) (resumed_rows models fed cycle state)
+
+-- This is reported for bytes that aren't the text of a snapshot of this circuit, or that of one before a cycle that is later than this
+-- number of rows.
+abbrev pub TellsSnapOf : (reference : Ordered) (rows : ℕ) (bytes : List ℕ) → Said → Type 0
+TellsSnapOf reference rows bytes said =
+    ((line : ℕ) × IsFirstFault reference.circuit reference.tree bytes line × (said ≡ snap_fault (fault_words (S1 line))))
+    ⊎ ((cycle : ℕ) × (state : State) × IsSnap reference.circuit reference.tree bytes cycle state × (rows < cycle) × (said ≡ few_rows cycle rows))
