@@ -13,7 +13,7 @@ from source import clauses_of, closing, signature_end
 
 WORD = re.compile(r"[^\s(){},;.:«»]+")
 USE = re.compile(r"^\s*(?:pub )?(?:ghost )?use Rattle\.(\w+)\.specs\.([\w.]+?)(?:\.\{([^}]*)\})?(?: as (\w+))?;?\s*$")
-HEAD = re.compile(r"^(?:(?:abbrev|unfoldable|reducible|opaque|instance|pub|record|data|class|trait) )*([^\s:({]+)")
+HEAD = re.compile(r"^(?:(?:abbrev|unfoldable|reducible|opaque|instance|pub|record|data|class|trait) )*([^\s:({})]+)")
 INNER = re.compile(r"\s+(?:abbrev )?(?:pub )?(?:record |data )?([^\s:({]+)\s*[:({]")
 
 

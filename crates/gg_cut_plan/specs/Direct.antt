@@ -4,7 +4,7 @@
 -- in-channel leaves, with its copies, if a direct channel has it as its origin and the hub needs it for nothing else.
 -- Source: MEMOCODE 2009 (a fork: one out-signal of a node on several channels); this program's profile for which
 -- channels are direct.
-pub use Rattle.gg_order.specs.Found.{line_names}
+use Rattle.gg_order.specs.Found.{line_names}
 use Rattle.std.specs.Prelude.{ℕ, zero, suc, List, [], ◌∷◌, ◌++◌, Bool, true, false, not, ◌||◌, ◌&&◌, ◌==◌, if◌then◌else◌, Option, Some, None, length, map, filter, flat_map, find, option_and_then, is_some, slice_get}
 use Rattle.std.specs.List.{list_any, range_with_len}
 use Rattle.gg_flat.specs.declared.line.Node.{Node}

@@ -12,7 +12,8 @@ use Rattle.gg_flat.specs.Circuit.{FlatCircuit}
 use Rattle.gg_flat.specs.Reads.{Names, NamesSignal, ResetNames, NextNames, RegisterNames}
 use Rattle.gg_flat.proofs.ListLemmas.{some-item, here, further}
 use Rattle.gg_cut_split.proofs.ClosedLemmas.ListLemmas.{map-cases, flattened-in, flat_map-is}
-use Rattle.gg_cut_plan.specs.Direct.{op_names, line_names, next_names, reset_names, register_names, driver_names}
+use Rattle.gg_cut_plan.specs.Direct.{next_names, reset_names, register_names, driver_names}
+use Rattle.gg_order.specs.Found.{op_names, line_names}
 
 pub flat-in : {A B : Type 0} (f : A → List B) (xs : List A) (x : A) (y : B) → Contains xs x → Contains (f x) y → Contains (flat_map f xs) y
 flat-in {B = B} f xs x y at h =

@@ -13,7 +13,8 @@ use Rattle.gg_flat.specs.Circuit.{FlatCircuit, driver_at}
 use Rattle.gg_flat.specs.Reads.{Names, NamesSignal, ResetNames, NextNames, RegisterNames}
 use Rattle.gg_flat.proofs.ListLemmas.{Contains-map, Contains-cases}
 use Rattle.gg_part.specs.inside.Choice.{IsChoice}
-use Rattle.gg_cut_plan.specs.Direct.{op_names, line_names, next_names, reset_names, register_names, driver_names}
+use Rattle.gg_cut_plan.specs.Direct.{next_names, reset_names, register_names, driver_names}
+use Rattle.gg_order.specs.Found.{op_names, line_names}
 use Rattle.gg_cut_routes.proofs.ListTables.{flat-out}
 
 none-listed : (t : ℕ) → Contains [] t → ⊥

@@ -3,7 +3,8 @@ ghost use Rattle.std.specs.Prelude.{◌≡◌, ◌<◌, ◌++◌, [], ◌∷◌,
 ghost use Rattle.gg_flat.specs.Circuit.{driver_at};
 ghost use Rattle.gg_flat_tree.specs.Scoped.{reader_fields, writer_fields, memory_fields, stop_signals};
 ghost use Rattle.gg_flat.specs.WellFormed.{IsWellFormed, MayDrive};
-ghost use Rattle.gg_cut_plan.specs.Direct.{op_names, line_names, next_names, reset_names, register_names, driver_names};
+ghost use Rattle.gg_cut_plan.specs.Direct.{next_names, reset_names, register_names, driver_names};
+ghost use Rattle.gg_order.specs.Found.{op_names, line_names};
 
 use gg_flat::{Driver, Line, Node, Op, Piece, Reader, Register, Reset, Writer};
 use gg_flat_tree::Tree;

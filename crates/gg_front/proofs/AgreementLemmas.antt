@@ -6,7 +6,7 @@ use Rattle.gg_elab_sites.specs.declared.counts.Excess.{Excess}
 use Rattle.gg_read.specs.Text.{LineTokens, IsFaultLine, IsTooDeep, HasReadFault, first_outside}
 use Rattle.gg_read.specs.declared.text.ReadFault.{ReadFault}
 use Rattle.gg_read.specs.declared.text.ReadFault.TheVariants as unread
-use Rattle.gg_shape.specs.Faults.{first}
+use Rattle.gg_shape_names.specs.Along.{first}
 use Rattle.gg_shape.specs.Judged.{RefusesFrom, IsInRing}
 use Rattle.gg_shape.specs.Memories.{memory_faults}
 use Rattle.gg_shape.specs.Shape.{named_faults}

@@ -5,7 +5,7 @@ use Rattle.gg_read.specs.Text.{Spells, HasNoFaultLine, HasReadFault}
 use Rattle.gg_read.specs.declared.text.ReadFault.{ReadFault}
 use Rattle.gg_read.specs.declared.text.ReadFault.TheVariants as unread
 use Rattle.gg_elab_sites.specs.declared.counts.Excess.{Excess}
-use Rattle.gg_shape.specs.Faults.{first}
+use Rattle.gg_shape_names.specs.Along.{first}
 use Rattle.gg_shape.specs.Judged.{IsShaped, RefusesFrom}
 use Rattle.gg_shape.specs.Memories.{memory_faults}
 use Rattle.gg_shape.specs.Shape.{named_faults}

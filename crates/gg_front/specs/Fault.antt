@@ -12,7 +12,7 @@ use Rattle.gg_read.specs.FaultText as reading
 use Rattle.gg_read.specs.Text.{Spells, HasNoFaultLine, HasReadFault}
 use Rattle.gg_read.specs.declared.text.ReadFault.TheVariants as unread
 use Rattle.gg_shape.specs.FaultText as circuits
-use Rattle.gg_shape.specs.Faults.{first}
+use Rattle.gg_shape_names.specs.Along.{first}
 use Rattle.gg_shape.specs.Judged.{IsShaped, RefusesFrom}
 use Rattle.gg_shape.specs.Shape.{named_faults}
 use Rattle.gg_shape.specs.declared.fault.Fault.{Fault}

@@ -8,7 +8,7 @@ use Rattle.gg_shape_names.proofs.AlongLemmas.{first-front, left, left-from}
 use Rattle.gg_shape.specs.declared.fault.Fault.{Fault}
 use Rattle.gg_shape.specs.declared.fault.CheckFault.{CheckFault}
 use Rattle.gg_shape.specs.declared.fault.CheckFault.TheVariants.{F, NoMemory}
-use Rattle.gg_shape.specs.Faults.{along}
+use Rattle.gg_shape_names.specs.Along.{along}
 use Rattle.gg_shape.specs.inside.Faults.{Refuses, Answers}
 
 -- a refusal for some faults is one for these and more after them

@@ -6,7 +6,7 @@ use Rattle.gg_ast.specs.declared.statement.MemoryField.TheVariants.{Readers, Wri
 use Rattle.gg_ast.specs.declared.statement.StmtKind.TheVariants.{Register}
 use Rattle.gg_ast.specs.Term.{NamedTerm}
 use Rattle.gg_shape.specs.declared.fault.Fault.TheVariants.{MissingTop, RepeatedName, UnknownName, SecondConnection, Unconnected, ConnectedSource}
-use Rattle.gg_shape.specs.Faults.{first}
+use Rattle.gg_shape_names.specs.Along.{first}
 use Rattle.gg_shape.specs.Shape.{named_faults}
 use Rattle.gg_shape.proofs.WorkedCircuits.{on, input, output, connect, invalid, instance, module_with, circuit_with, clock, x, y, of_i, of_m, child, parent_with, family_with, inst_i, wired, field, sizes, ports_w_r, mem_m, read, write, answer, store_with, store_of}
 

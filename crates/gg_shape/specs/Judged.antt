@@ -6,7 +6,7 @@ use Rattle.gg_ast.specs.Tree.{CircuitTree}
 use Rattle.gg_shape.specs.declared.fault.Fault.{Fault}
 use Rattle.gg_shape.specs.declared.fault.CheckFault.{CheckFault}
 use Rattle.gg_shape.specs.declared.fault.CheckFault.TheVariants.{F, NoMemory}
-use Rattle.gg_shape.specs.Faults.{first}
+use Rattle.gg_shape_names.specs.Along.{first}
 use Rattle.gg_shape.specs.Memories.{memory_faults}
 use Rattle.gg_shape.specs.Rings.{HasNoRing, TellsRing}
 use Rattle.gg_shape.specs.Shape.{named_faults}

@@ -23,7 +23,8 @@ use Rattle.gg_shape_names.specs.Repetitions.{repetitions}
 use Rattle.gg_shape_names.specs.Scope.{written}
 use Rattle.gg_shape.specs.declared.fault.Fault.{Fault}
 use Rattle.gg_shape.specs.declared.fault.Fault.TheVariants.{MissingTop, RepeatedName, UnknownName, SecondConnection, Unconnected, ConnectedSource}
-use Rattle.gg_shape.specs.Faults.{along, fault_if}
+use Rattle.gg_shape.specs.Faults.{fault_if}
+use Rattle.gg_shape_names.specs.Along.{along}
 
 -- ---- F1
 

@@ -3,7 +3,7 @@ ghost use Rattle.std.specs.Prelude.{◌≡◌, ◌<◌, ◌∷◌, [], ◌++◌,
 ghost use Rattle.gg_ast.specs.declared.statement.Stmt.{Stmt as AStatement};
 ghost use Rattle.gg_shape_names.specs.Namespace.{scope_of};
 ghost use Rattle.gg_shape.specs.inside.Faults.{Answers};
-ghost use Rattle.gg_shape.specs.Faults.{along};
+ghost use Rattle.gg_shape_names.specs.Along.{along};
 ghost use Rattle.gg_shape.specs.Shape.{in_modules, second_connections, second_by, connected_sources, source_by};
 ghost use Rattle.gg_shape.specs.inside.Told.{TellsConnected, TellsFirst, module_of};
 

@@ -87,3 +87,4 @@ golden_app = record {
     subcommand_required = true;
   };
   subs = run_shape ∷ replay_shape ∷ check_shape ∷ demo_shape ∷ save_shape ∷ resume_shape ∷ [];
+}

@@ -5,7 +5,7 @@ use Rattle.gg_ast.specs.Tree.{CircuitTree}
 use Rattle.gg_flat.specs.Circuit.{FlatCircuit}
 use Rattle.gg_read.specs.Text.{HasReadFault}
 use Rattle.gg_read.specs.declared.text.ReadFault.TheVariants as unread
-use Rattle.gg_shape.specs.Faults.{first}
+use Rattle.gg_shape_names.specs.Along.{first}
 use Rattle.gg_shape.specs.declared.fault.Fault.{Fault}
 use Rattle.gg_shape.specs.declared.fault.CheckFault.{CheckFault}
 use Rattle.gg_shape.specs.declared.fault.CheckFault.TheVariants as refusals

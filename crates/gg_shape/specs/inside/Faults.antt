@@ -1,7 +1,7 @@
 -- More on Faults: what no promise of the program's speaks of.
 -- Source: this program's own.
-pub use Rattle.gg_shape_names.specs.Along.{first}
 use Rattle.std.specs.Prelude.{◌≡◌, List, [], Some, Result, Ok, Err}
+use Rattle.gg_shape_names.specs.Along.{first}
 use Rattle.gg_shape.specs.declared.fault.Fault.{Fault}
 use Rattle.gg_shape.specs.declared.fault.CheckFault.{CheckFault}
 use Rattle.gg_shape.specs.declared.fault.CheckFault.TheVariants.{F, NoMemory}

@@ -1,6 +1,6 @@
 use Rattle.std.proofs.Common.{◌≡◌, ◌++◌, take}
 use Rattle.std.specs.Prelude.{flat_map}
-use Rattle.gg_cut_plan.specs.Direct.{op_names}
+use Rattle.gg_order.specs.Found.{op_names}
 use Rattle.gg_cut_routes.proofs.names.push_line.Given as goal
 
 abbrev pub invariant-loop-node : goal.invariant-loop-node

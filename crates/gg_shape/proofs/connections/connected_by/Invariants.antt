@@ -1,7 +1,7 @@
 use Rattle.std.proofs.Common.{◌≡◌, take}
 use Rattle.gg_shape_names.specs.Namespace.{scope_of}
 use Rattle.gg_shape_names.proofs.AlongLemmas.{left}
-use Rattle.gg_shape.specs.Faults.{along}
+use Rattle.gg_shape_names.specs.Along.{along}
 use Rattle.gg_shape.specs.Shape.{second_by}
 use Rattle.gg_shape.specs.inside.Told.{module_of, TellsConnected}
 use Rattle.gg_shape.proofs.connections.connected_by.Given as goal

@@ -1,7 +1,7 @@
 use Rattle.std.proofs.Common.{◌≡◌, length, take}
 use Rattle.gg_shape_names.specs.Namespace.{names_after}
 use Rattle.gg_shape_names.proofs.AlongLemmas.{left}
-use Rattle.gg_shape.specs.Faults.{along}
+use Rattle.gg_shape_names.specs.Along.{along}
 use Rattle.gg_shape.specs.Shape.{unknown_by}
 use Rattle.gg_shape.specs.inside.Told.{module_of}
 use Rattle.gg_shape.proofs.references.check_statements.Given as goal

@@ -1,6 +1,7 @@
 use Rattle.std.proofs.Common.{◌≡◌, ◌∷◌, [], is_some, not, Some, sym, ap, ◌∙◌, rules}
 use Rattle.gg_shape.specs.declared.fault.Fault.TheVariants.{UnknownName}
-use Rattle.gg_shape.specs.Faults.{fault_if, first}
+use Rattle.gg_shape.specs.Faults.{fault_if}
+use Rattle.gg_shape_names.specs.Along.{first}
 use Rattle.gg_shape.specs.Shape.{unknown_module}
 use Rattle.gg_shape.proofs.PlaceLemmas.{module-there}
 use Rattle.gg_shape.proofs.references.known_module.Goals as goal
