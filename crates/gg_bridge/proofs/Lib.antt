@@ -20,3 +20,4 @@ pub mod RunLemmas
 pub mod JoinLemmas
 pub mod AllLemmas
 pub mod EachLemmas
+pub mod WatchedLemmas

@@ -8,3 +8,4 @@ pub mod Joined
 pub mod Model
 pub mod Ports
 pub mod Turned
+pub mod Watched

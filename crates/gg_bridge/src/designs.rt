@@ -1,4 +1,4 @@
-//! `join`: a design with a model in it.
+//! `join_model`: a design with a model in it.
 ghost use Rattle.std.specs.Prelude.{◌≡◌, IfOk};
 ghost use Rattle.gg_bridge.specs.Model.{IsModel};
 ghost use Rattle.gg_flat.specs.WellFormed.{IsWellFormed};
@@ -18,7 +18,7 @@ use std::alloc::{AllocError, Global};
 /// # Errors
 ///
 /// Returns `AllocError` if an allocation fails, or if there are 4,294,967,296 signals, registers, memories or in-signals, or more.
-pub fn join(
+pub fn join_model(
     alloc: Global,
     design: &Design,
     front: &str,

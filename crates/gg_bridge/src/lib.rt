@@ -5,6 +5,8 @@
 //!
 //! - a boxed bridge is a bridge;
 //! - an [`Echo`] is a bridge that says what it saw in the cycle before;
+//! - a [`Watcher`] is a bridge that drives nothing, and hands the value of one output in each cycle to a [`Watch`]. Whoever writes
+//!   one has nothing to prove of it;
 //! - a [`Hosted`] bridge is a machine, the only one of its host, whose piece is the model with its ports in another order. Each of its outs
 //!   may give its token before any in has one;
 //! - [`join`] makes a design with a bridge's model at its ports, which are given by their names. It takes
@@ -32,6 +34,7 @@ mod joining;
 mod laws;
 mod numbers;
 mod ports;
+mod watcher;
 
 pub use bridge::Bridge;
 pub use echo::Echo;
@@ -42,3 +45,4 @@ pub use laws::{
 };
 pub use numbers::{place_at, places_of};
 pub use ports::join;
+pub use watcher::{Watch, Watcher};

@@ -5,6 +5,7 @@ ghost use Rattle.gg_bridge.specs.Model.{IsModel};
 ghost use Rattle.gg_bridge.specs.inside.Ports.{CanStand, earlier, picked, place_by};
 ghost use Rattle.gg_bridge.specs.Ports.{first_called, front_of, joined_at};
 
+use crate::designs::join_model;
 use crate::{place_at, places_of};
 use gg_bits::{Name, Names};
 use gg_flat::Piece;
@@ -123,5 +124,5 @@ pub fn join(
     let driven = all_called(alloc, piece, piece.ins(), drives.as_slice())?;
     let mut front = behind(alloc, "bridge:", name)?;
     front.push_str(".")?;
-    crate::designs::join(alloc, design, front.as_str(), model, &seen, &driven)
+    join_model(alloc, design, front.as_str(), model, &seen, &driven)
 }

@@ -14,7 +14,7 @@ use crate::laws::channels_routed;
 use crate::names::{names_of, push_stops};
 use crate::origins::origins_of;
 use crate::routed::routed_of;
-use crate::sides::{made_of, sides_of};
+use crate::sides::{made_of, routed_sides};
 use crate::straight::straight_of;
 use gg_bits::Items;
 use gg_cut_plan::{Listed, Wire, marks_of};
@@ -99,7 +99,7 @@ fn routes_of(
     ensures { IfOk result (λ found. IsRouting (hub_of piece.now tree.now listed.now (is_marked barred.now) (λ s. false) direct) found.wires found.gone) }
 {
     let count = piece.signal_count();
-    let sides = sides_of(alloc, count, wires, globals)?;
+    let sides = routed_sides(alloc, count, wires, globals)?;
     let made = made_of(alloc, &sides, globals)?;
     let origins = origins_of(alloc, piece, order, &sides, barred)?;
     let mut names = names_of(alloc, piece, &made, memories)?;

@@ -26,7 +26,7 @@ pub(crate) enum Side {
 // # Errors
 //
 // Returns `AllocError` if an allocation fails.
-pub(crate) fn sides_of(
+pub(crate) fn routed_sides(
     alloc: Global,
     count: usize,
     wires: &[Wire],

@@ -10,7 +10,7 @@ ghost use Rattle.gg_snap.specs.inside.Parts.{HasPart, HasSizeOf};
 ghost use Rattle.gg_snap.specs.inside.Gathered.{AreApart, AreDone, AreIn, HoldsBody, HoldsPart, IsAll, IsRunning, IsSized, held_by, kept_by, newest, newest_tokens};
 
 use crate::pipes::pipes_of;
-use crate::text::Draft;
+use crate::text::StateDraft;
 use gg_bridge::Bridge;
 use gg_build::Node;
 use gg_cut_plan::{Body, Machine, Plan};
@@ -48,7 +48,7 @@ fn state_of<'n, B: Bridge + Drop>(
 
 // Puts the state of a machine at the registers and memories that it has.
 fn put<B: Bridge + Send + Drop, Z: Streams>(
-    draft: &mut Draft,
+    draft: &mut StateDraft,
     net: &Net<Node<'_, B>, Z>,
     machine: u32,
     held: &[u32],
@@ -72,7 +72,7 @@ fn put<B: Bridge + Send + Drop, Z: Streams>(
 
 // Puts the state of a machine of a plan.
 fn put_machine<B: Bridge + Send + Drop, Z: Streams>(
-    draft: &mut Draft,
+    draft: &mut StateDraft,
     net: &Net<Node<'_, B>, Z>,
     machine: u32,
     body: &Body,
@@ -128,14 +128,14 @@ fn gather_machines<B: Bridge + Send + Drop, Z: Streams>(
     net: &Net<Node<'_, B>, Z>,
     machines: &[Machine],
     piece: &Piece,
-) -> Result<Draft, AllocError>
+) -> Result<StateDraft, AllocError>
     requires count { length net.now.machines ≡ length machines.now }
     requires few { length machines.now ≤ 2 ^ 32 }
     requires holds { (plan : Plan) × (whole : State) × (plan.machines ≡ machines.now) × AreIn piece.now plan net.now whole }
     ensures sized { IfOk result (λ draft. IsSized piece.now draft) }
     ensures done { IfOk result (λ draft. (plan : Plan) (whole : State) → plan.machines ≡ machines.now → AreIn piece.now plan net.now whole → AreDone plan whole (length machines.now) draft) }
 {
-    let mut draft = Draft::new(alloc, piece)?;
+    let mut draft = StateDraft::new(alloc, piece)?;
     for m in 0..machines.len() {
         put_machine(&mut draft, net, m as u32, &machines[m].body)?;
     }

@@ -23,4 +23,4 @@ mod text;
 
 pub use laws::{networks_hold_states, plans_are_whole, plans_can_save, plans_have_all};
 pub use snaps::{restore, snapshot};
-pub use text::{Draft, Snap, SnapFault, one_snapshot, read_snap, snap_text, trees_can_save};
+pub use text::{Snap, SnapFault, StateDraft, one_snapshot, read_snap, snap_text, trees_can_save};

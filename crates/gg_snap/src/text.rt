@@ -8,7 +8,7 @@
 //! - `read_snap` reads it again. It refuses all else, and tells the first line that can't stand in any snapshot of the circuit.
 //! - `one_snapshot` is a law: a text is that of at most one cycle and one state, and then it has no fault. It has at most one first fault.
 //! - `trees_can_save` is a law: which circuits can be saved.
-//! - `Draft` is a state that is put together from the states of parts.
+//! - `StateDraft` is a state that is put together from the states of parts.
 
 mod cutting;
 mod draft;
@@ -22,7 +22,7 @@ mod snap;
 mod table;
 mod writing;
 
-pub use draft::Draft;
+pub use draft::StateDraft;
 pub use fault::SnapFault;
 pub use laws::{one_snapshot, trees_can_save};
 pub use snap::{Snap, read_snap, snap_text};

@@ -10,7 +10,7 @@ ghost use Rattle.gg_io.specs.Ends.{loads_of};
 ghost use Rattle.gg_io.specs.WentOn.{ShelfWentOn};
 
 use crate::partition::{Cut, read_cut};
-use crate::reading::{read_circuit, read_inputs};
+use crate::reading::{load_circuit, read_inputs};
 use gg_cut_plan::Models;
 use gg_io::{Ending, Shelf};
 use gg_order::Design;
@@ -84,7 +84,7 @@ pub fn read_case<S: Shelf>(
     ensures refused { IfErr result (IfRefused (StopsBy (loads_of S.Shelf shelf.old shelf.new) (case_order (record { models = models.now; saves = saves }) (asking circuit.now partition.now capacity)))) }
     ensures shelf { ShelfWentOn S.Shelf shelf.old shelf.new }
 {
-    let design = read_circuit(alloc, shelf, circuit)?;
+    let design = load_circuit(alloc, shelf, circuit)?;
     let cut = read_cut(alloc, shelf, partition, &design, models, saves, capacity)?;
     // for the invariant alone
     let _ = design.order();

@@ -48,7 +48,7 @@ fn print_channel<B: Bridge + Send + Drop, Z: Streams, K: Sink>(
 }
 
 // Writes the lines of all channels.
-fn print_net<B: Bridge + Send + Drop, Z: Streams, K: Sink>(
+fn print_log<B: Bridge + Send + Drop, Z: Streams, K: Sink>(
     alloc: Global,
     plan: &Plan,
     net: &Net<Node<'_, B>, Z>,
@@ -134,7 +134,7 @@ pub fn replay_net<B: Bridge + Send + Drop, Z: Streams, K: Sink>(
     net.kept();
     let mut log = Log::new(alloc, net.shape().wires.as_slice())?;
     match replay(&mut net, events, &mut log) {
-        Ok(()) => print_net(alloc, plan, &net, &log, out),
+        Ok(()) => print_log(alloc, plan, &net, &log, out),
         Err(ReplayFault::Refused { step, cause }) => Err(end_at_step(
             alloc, names, events, step, cause,
         )),

@@ -48,7 +48,7 @@ fn end_at_circuit(alloc: Global, fault: &FrontFault) -> Ending
 }
 
 // The design of the circuit's file.
-pub(crate) fn read_circuit<S: Shelf>(
+pub(crate) fn load_circuit<S: Shelf>(
     alloc: Global,
     shelf: &mut S,
     name: &str,

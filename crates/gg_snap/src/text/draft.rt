@@ -1,4 +1,4 @@
-//! `Draft`: a state that is being filled.
+//! `StateDraft`: a state that is being filled.
 ghost use Rattle.std.specs.Prelude.{◌≡◌, ◌<◌, ◌++◌, ℕ, All, length, map, IfOk};
 ghost use Rattle.gg_flat.specs.Line.{value_at};
 ghost use Rattle.gg_flat.specs.Memory.{bank_at, opening_bank};
@@ -35,12 +35,12 @@ impl Model for Filled {
 }
 
 /// A state that is being filled, value by value or part by part. A contract sees the state so far.
-pub struct Draft {
+pub struct StateDraft {
     registers: Vec<u128>,
     banks: Vec<Filled>,
 }
 
-impl Drop for Draft {
+impl Drop for StateDraft {
     fn drop(self) {
         let Self { registers, banks } = self;
         drop(registers);
@@ -48,7 +48,7 @@ impl Drop for Draft {
     }
 }
 
-impl Model for Draft {
+impl Model for StateDraft {
     ghost use Rattle.gg_flat.specs.State as states;
 
     ghost Value = { states.State };
@@ -131,18 +131,18 @@ fn put_banks(old: &mut [Filled], places: &[u32], banks: &[Bank])
     }
 }
 
-impl Draft {
+impl StateDraft {
     /// The state of a circuit before the first cycle: zeros.
     ///
     /// # Errors
     ///
     /// Returns `AllocError` if an allocation fails.
-    pub fn new(alloc: Global, piece: &Piece) -> Result<Draft, AllocError>
+    pub fn new(alloc: Global, piece: &Piece) -> Result<StateDraft, AllocError>
         ensures { IfOk result (λ draft. draft ≡ opening piece.now) }
     {
         let registers = vec![in alloc; 0u128; piece.registers().len()]?;
         let banks = empty_banks(alloc, piece.memories())?;
-        Ok(Draft { registers, banks })
+        Ok(StateDraft { registers, banks })
     }
 
     /// Writes the state of a part into the registers and memories that the part has of the whole circuit.
@@ -181,7 +181,7 @@ impl Draft {
     pub fn into_state(self, alloc: Global) -> Result<State, AllocError>
         ensures { IfOk result (λ state. state ≡ self) }
     {
-        let Draft { registers, banks } = self;
+        let StateDraft { registers, banks } = self;
         let banks = banks_of(alloc, banks)?;
         Ok(State::of(registers, banks))
     }
@@ -199,7 +199,7 @@ impl Draft {
         ensures registers { IfOk result (λ state. state.registers ≡ self.registers ++ tokens.items) }
         ensures banks { IfOk result (λ state. state.banks ≡ self.banks) }
     {
-        let Draft { registers, banks } = self;
+        let StateDraft { registers, banks } = self;
         let banks = banks_of(alloc, banks)?;
         let mut registers = registers;
         let mut tokens = tokens;

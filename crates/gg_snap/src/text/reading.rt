@@ -9,7 +9,7 @@ ghost use Rattle.gg_snap.specs.text.Lines.{head_of, line_of};
 ghost use Rattle.gg_snap.specs.inside.Places.{Ends, Finds, IsLineOfNone, IsTaken, behind};
 
 use crate::text::cutting::cut_piece;
-use crate::text::draft::Draft;
+use crate::text::draft::StateDraft;
 use crate::text::parsing::{after_head, cell_of};
 use crate::text::row::Row;
 use crate::text::writing::push_line;
@@ -104,7 +104,7 @@ fn find<'a>(rows: &[Row], cursor: &mut Cursor, line: &'a [u8]) -> Option<&'a [u8
 fn take_line(
     rows: &[Row],
     cursor: &mut Cursor,
-    draft: &mut Draft,
+    draft: &mut StateDraft,
     text: &mut String,
     line: &[u8],
 ) -> Result<bool, AllocError>
@@ -132,7 +132,7 @@ fn take_line(
 pub(crate) fn take_lines(
     alloc: Global,
     rows: &[Row],
-    draft: &mut Draft,
+    draft: &mut StateDraft,
     text: &[u8],
 ) -> Result<Option<u64>, AllocError>
     requires known { (circuit : FlatCircuit) × AreKnown circuit rows.now × (draft.old ≡ opening circuit) }

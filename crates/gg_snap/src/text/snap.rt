@@ -6,7 +6,7 @@ ghost use Rattle.gg_snap.specs.text.Known.{AreKnown, CanSave};
 ghost use Rattle.gg_snap.specs.text.Standing.{IfFault, IsFirstFault, IsSnap};
 ghost use Rattle.gg_snap.specs.text.Table.{rows_of};
 
-use crate::text::draft::Draft;
+use crate::text::draft::StateDraft;
 use crate::text::fault::SnapFault;
 use crate::text::heading::read_heading;
 use crate::text::reading::take_lines;
@@ -111,7 +111,7 @@ pub fn read_snap<'a>(alloc: Global, design: &'a Design, bytes: &[u8]) -> Result<
 {
     let rows = rows_of(alloc, design)?;
     let (cycle, rest) = read_heading(alloc, bytes)?;
-    let mut draft = Draft::new(alloc, design.piece())?;
+    let mut draft = StateDraft::new(alloc, design.piece())?;
     if let Some(count) = take_lines(alloc, &rows, &mut draft, rest)? {
         return Err(SnapFault::S1 { line: count + 3 });
     }

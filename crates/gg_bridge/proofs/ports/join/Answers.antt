@@ -4,8 +4,8 @@ use Rattle.gg_bridge.specs.Ports.{front_of}
 use Rattle.gg_bridge.proofs.PortLemmas.{seen-is, driven-is, can-join, is-joined}
 use Rattle.gg_bridge.proofs.ports.join.Goals as goal
 
-pub join-requires-clause-can : goal.join-requires-clause-can
-join-requires-clause-can c =
+pub join_model-requires-clause-can : goal.join_model-requires-clause-can
+join_model-requires-clause-can c =
     let circuit = c.args.design.now.circuit in
     let front : c.as_str.result.now ≡ front_of c.args.name.now = c.as_str.ensures.value ∙ c.in_ok-push_str.ensures.bytes ∙ ap (λ (l : List ℕ). l ++ codes ".") c.in_ok-front.ensures in
     let seen = seen-is circuit c.piece-piece.result.now c.outs.result.now c.as_slice.result.now c.args.sees.now c.in_ok-seen.seen.items c.deref.result.now c.piece-piece.ensures.circuit c.outs.ensures c.as_slice.ensures c.in_ok-seen.ensures c.deref.ensures.value in
@@ -18,6 +18,6 @@ returns-clause-circuit c =
     let front : c.as_str.result.now ≡ front_of c.args.name.now = c.as_str.ensures.value ∙ c.in_ok-push_str.ensures.bytes ∙ ap (λ (l : List ℕ). l ++ codes ".") c.in_ok-front.ensures in
     let seen = seen-is circuit c.piece-piece.result.now c.outs.result.now c.as_slice.result.now c.args.sees.now c.in_ok-seen.seen.items c.deref.result.now c.piece-piece.ensures.circuit c.outs.ensures c.as_slice.ensures c.in_ok-seen.ensures c.deref.ensures.value in
     let driven = driven-is circuit c.piece-piece.result.now c.ins.result.now c.as_slice-2.result.now c.args.drives.now c.in_ok-driven.driven.items c.deref-2.result.now c.piece-piece.ensures.circuit c.ins.ensures c.as_slice-2.ensures c.in_ok-driven.ensures c.deref-2.ensures.value in
-    subst (λ (all : FlatCircuit). IfOk c.join.result (λ made. made.circuit ≡ all))
+    subst (λ (all : FlatCircuit). IfOk c.join_model.result (λ made. made.circuit ≡ all))
     (is-joined circuit c.args.name.now c.as_str.result.now c.args.model.now c.args.sees.now c.args.drives.now c.deref.result.now c.deref-2.result.now front seen driven)
-    c.join.ensures.circuit
+    c.join_model.ensures.circuit

@@ -13,8 +13,8 @@ use Rattle.gg_cut_routes.proofs.GoneTables.{names_by}
 use Rattle.gg_cut_routes.proofs.CutTables.{known-wires, mine-known, mine-named, names-known, fields-known, seen, routing-is}
 use Rattle.gg_cut_routes.proofs.routing.routes_of.Goals as goal
 
-pub sides_of-requires-clause-wires : goal.sides_of-requires-clause-wires
-sides_of-requires-clause-wires c =
+pub routed_sides-requires-clause-wires : goal.routed_sides-requires-clause-wires
+routed_sides-requires-clause-wires c =
     subst (λ n. All (λ (w : Wire). w.signal < n) c.args.wires.now) (sym c.signal_count-count.ensures.count)
     (known-wires c.args.piece.now c.args.tree.now c.args.order.now c.args.listed.now c.args.wires.now c.args.globals.now c.args.memories.now c.requires.can (is_marked c.args.barred.now) (λ s. false) c.args.direct)
 

@@ -14,7 +14,7 @@ returns-in_err-cut-clause-refused g c =
     let accepted = c.in_ok-design.ensures.accepted in
     rw (exit-is c.from_residual-in_err-cut.ensures.1)
     (IfRefused-map
-    (λ said h. later-stops (loads-on c.read_cut.new.shelf c.read_circuit.ensures.shelf) (λ b. Load (partition_file_for (record { models = c.args.models.now; saves = c.args.saves }) b c.args.partition.now) (λ p. Write (λ text. Unit {0}))) accepted.0 accepted.1 accepted.2.means.text (inl (partition-refused (g.S.Shelf.files c.read_circuit.new.shelf) accepted.2 said h)))
+    (λ said h. later-stops (loads-on c.read_cut.new.shelf c.load_circuit.ensures.shelf) (λ b. Load (partition_file_for (record { models = c.args.models.now; saves = c.args.saves }) b c.args.partition.now) (λ p. Write (λ text. Unit {0}))) accepted.0 accepted.1 accepted.2.means.text (inl (partition-refused (g.S.Shelf.files c.load_circuit.new.shelf) accepted.2 said h)))
     c.in_err-cut.field-0.0 c.in_err-cut.ensures.refused)
 
 pub returns-clause-read : goal.returns-clause-read
@@ -25,7 +25,7 @@ returns-clause-read g c =
       circuit = accepted.0;
       partition = cut.0;
       at_circuit = accepted.1;
-      at_partition = can-before (loads-on c.read_cut.new.shelf c.read_circuit.ensures.shelf) (partition-can cut.1);
+      at_partition = can-before (loads-on c.read_cut.new.shelf c.load_circuit.ensures.shelf) (partition-can cut.1);
       is = record {
         means = accepted.2;
         designed = record { formed = c.piece.ensures.formed; ordered = c.order.ensures.ordered };

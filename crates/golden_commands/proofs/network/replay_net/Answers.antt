@@ -12,8 +12,8 @@ replay-requires-clause-logged g c κs within =
     opening-right fed.case.cut.plan fed.trace.columns fed.trace.rows g.Z.Streams.flow c.in_ok-net.net c.in_ok-net.ensures
     c.in_ok-log.log c.shape.result.now.wires.items c.requires.run c.kept.ensures c.shape.ensures.wires (c.in_ok-log.ensures ∙ ap opening_log c.as_slice.ensures.value)
 
-pub print_net-requires-clause-wires : goal.print_net-requires-clause-wires
-print_net-requires-clause-wires g c κs within =
+pub print_log-requires-clause-wires : goal.print_log-requires-clause-wires
+print_log-requires-clause-wires g c κs within =
     let fed = c.args.fed.now in
     wires-stay fed.case.cut.plan fed.trace.columns fed.trace.rows g.Z.Streams.flow c.in_ok-net.net c.in_ok-net.ensures
     c.args.events.now c.replay.new.net c.in-Ok.ensures.done.0
@@ -22,7 +22,7 @@ pub returns-in-Ok-clause-ended : goal.returns-in-Ok-clause-ended
 returns-in-Ok-clause-ended g c =
     PrintsText _
     (net-goes c.args.fed.now g.Z.Streams.flow c.in_ok-net.net c.in_ok-net.ensures c.kept.ensures c.args.events.now c.replay.new.net c.in-Ok.ensures.done.0)
-    c.print_net.ensures.prints
+    c.print_log.ensures.prints
 
 pub returns-in-Err-Refused-clause-ended : goal.returns-in-Err-Refused-clause-ended
 returns-in-Err-Refused-clause-ended g c =

@@ -2,7 +2,7 @@ use Rattle.std.proofs.Common.{length}
 use Rattle.std.specs.List.{range_with_len}
 use Rattle.golden_commands.specs.Replayed.{net_line}
 use Rattle.golden_commands.proofs.LineLemmas.{LinesTo}
-use Rattle.golden_commands.proofs.network.print_net.Given as goal
+use Rattle.golden_commands.proofs.network.print_log.Given as goal
 
 abbrev pub invariant-loop-channel : goal.invariant-loop-channel
 invariant-loop-channel g l =

@@ -4,7 +4,7 @@ use Rattle.golden_commands.specs.Replayed.{net_line}
 use Rattle.gg_io.proofs.EndingLemmas.{exit-is}
 use Rattle.golden_commands.proofs.LineLemmas.{lines-next, lines-stop}
 use Rattle.golden_commands.proofs.NetLemmas.{at-range, in-range, whole-range}
-use Rattle.golden_commands.proofs.network.print_net.Goals as goal
+use Rattle.golden_commands.proofs.network.print_log.Goals as goal
 
 pub returns-in_err-print_channel-clause-prints : goal.returns-in_err-print_channel-clause-prints
 returns-in_err-print_channel-clause-prints g c =

@@ -2,7 +2,7 @@ use Rattle.std.proofs.Common.{inr, subst, List, ℕ}
 use Rattle.gg_front.proofs.HeldLemmas.{held-once}
 use Rattle.golden_commands.specs.Run.{TellsCircuit}
 use Rattle.gg_io.proofs.EndingLemmas.{IfRefused-map}
-use Rattle.golden_commands.proofs.reading.read_circuit.Goals as goal
+use Rattle.golden_commands.proofs.reading.load_circuit.Goals as goal
 
 pub returns-clause-refused : goal.returns-clause-refused
 returns-clause-refused g c =

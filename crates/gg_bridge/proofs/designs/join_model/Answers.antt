@@ -3,7 +3,7 @@ use Rattle.gg_flat.specs.Circuit.{FlatCircuit}
 use Rattle.gg_flat.specs.WellFormed.{IsWellFormed}
 use Rattle.gg_bridge.specs.Joined.{joined}
 use Rattle.gg_bridge.specs.inside.Joined.{HasOrder}
-use Rattle.gg_bridge.proofs.designs.join.Goals as goal
+use Rattle.gg_bridge.proofs.designs.join_model.Goals as goal
 
 made : (piece one own : FlatCircuit) (front : List ℕ) (model : FlatCircuit) (sees drives : List ℕ) → piece ≡ joined one front model sees drives → one ≡ own → piece ≡ joined own front model sees drives
 made piece one own front model sees drives is same = is ∙ ap (λ (c : FlatCircuit). joined c front model sees drives) same

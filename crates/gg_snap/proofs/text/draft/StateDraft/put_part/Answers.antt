@@ -4,7 +4,7 @@ use Rattle.gg_flat.specs.Memory.{Bank, bank_at}
 use Rattle.gg_flat.specs.State.{State}
 use Rattle.gg_snap.specs.inside.Parts.{HasPart, HasSizeOf, put}
 use Rattle.gg_snap.proofs.TextLemmas.PartLemmas.{part-put}
-use Rattle.gg_snap.proofs.text.draft.Draft.put_part.Goals as goal
+use Rattle.gg_snap.proofs.text.draft.StateDraft.put_part.Goals as goal
 
 pub returns-clause-part : goal.returns-clause-part
 returns-clause-part c = λ whole part.

@@ -1,0 +1,5 @@
+use Rattle.gg_bridge.proofs.WatchedLemmas.{watched-model}
+use Rattle.gg_bridge.proofs.watcher.WatcherBridge.model.Goals as goal
+
+pub returns-clause-model : goal.returns-clause-model
+returns-clause-model g c = watched-model c.args.self.now
