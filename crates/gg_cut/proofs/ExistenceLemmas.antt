@@ -1,11 +1,11 @@
-mod FilledLemmas
-mod DecideLemmas
-mod PartLemmas
-mod ShareLemmas
-mod ClockLemmas
-mod NeedLemmas
-mod ToldLemmas
-mod BodyLemmas
-mod MachineLemmas
-mod PlacedLemmas
-mod PlanLemmas
+pub mod FilledLemmas
+pub mod DecideLemmas
+pub mod PartLemmas
+pub mod ShareLemmas
+pub mod ClockLemmas
+pub mod NeedLemmas
+pub mod ToldLemmas
+pub mod BodyLemmas
+pub mod MachineLemmas
+pub mod PlacedLemmas
+pub mod PlanLemmas

@@ -1,19 +1,19 @@
-mod ItemLemmas
-mod PlaceLemmas
-mod DraftLemmas
-mod LineLemmas
-mod PieceLemmas
-mod ReadLemmas
-mod SortLemmas
-mod SnapLemmas
+pub mod ItemLemmas
+pub mod PlaceLemmas
+pub mod DraftLemmas
+pub mod LineLemmas
+pub mod PieceLemmas
+pub mod ReadLemmas
+pub mod SortLemmas
+pub mod SnapLemmas
 pub mod WriteLemmas
-mod ParseLemmas
-mod RowLemmas
-mod TableLemmas
+pub mod ParseLemmas
+pub mod RowLemmas
+pub mod TableLemmas
 pub mod FeedLemmas
-mod PlainLemmas
-mod OneLemmas
-mod FindLemmas
+pub mod PlainLemmas
+pub mod OneLemmas
+pub mod FindLemmas
 pub mod PartLemmas
 pub mod SaveLemmas
-mod WorkedRows
+pub mod WorkedRows

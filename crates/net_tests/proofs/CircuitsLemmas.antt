@@ -1,2 +1,2 @@
-mod BeginLemmas
-mod OrderLemmas
+pub mod BeginLemmas
+pub mod OrderLemmas
