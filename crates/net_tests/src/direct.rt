@@ -1,8 +1,8 @@
 //! gg_cut and gg_build: channels that the hub doesn't pass on.
 use crate::networks::{Case, Row};
+use crate::texts::Circuit::Whole;
+use crate::texts::{BACK, FORK, FORK_TRACE, PAIR, PAIR_TRACE, SUMS, SUMS_TRACE};
 use gg_net::{Event, StepRefusal};
-use net_helpers::Circuit::Whole;
-use net_helpers::{BACK, FORK, FORK_TRACE, PAIR, PAIR_TRACE, SUMS, SUMS_TRACE};
 
 // Two units that feed each other in one cycle do it without the hub, which has no channel. Of the input of two units the hub takes one
 // channel, for the complement, and the first unit takes the other; the two share a host, or not. A unit gives its sum to two other units

@@ -1,10 +1,10 @@
 //! gg_measure: what is left to do in a network, and doing it in two orders.
+use crate::built::{is_at_most, keeps};
 use crate::networks::Case;
 use gg_bridge::Echo;
 use gg_build::Node;
 use gg_measure::{Order, left, possible, run_by, run_to, run_to_end};
 use gg_net::{Net, Streams};
-use net_helpers::{is_at_most, keeps};
 
 // Does the steps that `possible` answers, one after another. Returns how many were done, at most this many.
 fn follow<Z: Streams>(net: &mut Net<Node<'_, Echo>, Z>, most: u64) -> u64 {

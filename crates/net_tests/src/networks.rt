@@ -7,9 +7,16 @@ ghost use Rattle.gg_cut_plan.specs.Held.{AreHeldOnce};
 ghost use Rattle.gg_cut_reference.specs.whole.Whole.{HasFreeFronts};
 ghost use Rattle.gg_flat.specs.Run.{IsColumns};
 
+use crate::built::build_alone;
 use crate::measures::end_alike;
 use crate::orders::is_in_order;
+use crate::reading::{design_of, inputs_of, request_of};
 use crate::refusals::are_refused;
+use crate::texts::Circuit::{Memory, Whole};
+use crate::texts::{
+    COUNTER, COUNTER_TRACE, Circuit, FOUR_PORTS, FOUR_PORTS_TRACE, PAIR, PAIR_TRACE, THREE_CYCLES,
+    text_of,
+};
 use gg_bridge::Echo;
 use gg_build::Node;
 use gg_cut::cut;
@@ -18,11 +25,6 @@ use gg_net::{Event, Net, StepRefusal, Streams};
 use gg_order::Design;
 use gg_partfile::Request;
 use gg_trace::Trace;
-use net_helpers::Circuit::{Memory, Whole};
-use net_helpers::{
-    COUNTER, COUNTER_TRACE, Circuit, FOUR_PORTS, FOUR_PORTS_TRACE, PAIR, PAIR_TRACE, THREE_CYCLES,
-    build_alone, design_of, inputs_of, request_of, text_of,
-};
 use std::alloc::Global;
 use std::marker::Brand;
 use std::process::Abort;

@@ -1,8 +1,8 @@
 //! gg_cut and gg_build: channels that open with a token.
 use crate::networks::{Case, Row};
+use crate::texts::Circuit::{Memory, Whole};
+use crate::texts::{BACK, PAIR, PAIR_TRACE, SUMS, SUMS_TRACE, THREE_CYCLES};
 use gg_net::{Event, StepRefusal};
-use net_helpers::Circuit::{Memory, Whole};
-use net_helpers::{BACK, PAIR, PAIR_TRACE, SUMS, SUMS_TRACE, THREE_CYCLES};
 
 // Of two units that feed each other in one cycle, the first takes what the second gave a cycle before; then the output has the
 // value of a cycle before, and then the input. The first without the hub; then what the second gives comes a cycle late to the hub, which so

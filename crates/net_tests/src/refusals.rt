@@ -1,6 +1,7 @@
 //! gg_net: steps that are refused, and runs that go on behind them.
 ghost use Rattle.gg_build.specs.Build.{IsToRun, NeedsNone};
 
+use crate::built::build_alone;
 use crate::measures::run_alike;
 use crate::networks::{Case, goes_once};
 use gg_bridge::Echo;
@@ -8,7 +9,6 @@ use gg_build::Node;
 use gg_cut_plan::Plan;
 use gg_net::{Event, Net, StepRefusal, Streams};
 use gg_trace::Trace;
-use net_helpers::build_alone;
 use std::alloc::Global;
 
 // Whether a step is refused behind these steps. It is tested, and then tried twice.

@@ -1,8 +1,8 @@
 //! gg_build: units that share a host.
 use crate::networks::{Case, Row};
+use crate::texts::Circuit::Whole;
+use crate::texts::{DEEP, DEEP_TRACE, SUMS, SUMS_TRACE};
 use gg_net::{Event, StepRefusal};
-use net_helpers::Circuit::Whole;
-use net_helpers::{DEEP, DEEP_TRACE, SUMS, SUMS_TRACE};
 
 // Four instances of that module. Their outputs are one.
 const FOUR: &str =

@@ -1,7 +1,8 @@
 //! Two workers run side by side, with queues.
+use crate::meeting::Meeting;
+use crate::texts::{PAIR, PAIR_TRACE};
 use crate::workers::runs::{Row, Table, is_expected};
 use gg_ruled::Ruled;
-use net_helpers::{Meeting, PAIR, PAIR_TRACE};
 use std::alloc::Global;
 use std::sync::Wait;
 use std::thread::Threads;

@@ -7,6 +7,8 @@ ghost use Rattle.gg_part.specs.KeepsToTree.{KeepsToTree};
 ghost use Rattle.gg_cut_plan.specs.Held.{AreHeldOnce};
 ghost use Rattle.gg_cut_reference.specs.whole.Whole.{HasFreeFronts};
 
+use crate::built::{build_alone, is_at_most, keeps};
+use crate::reading::{design_of, inputs_of, request_of};
 use crate::workers::optional_node::{OptionalNode, beside_none};
 use gg_bridge::Echo;
 use gg_build::Node;
@@ -20,7 +22,6 @@ use gg_order::Design;
 use gg_partfile::Request;
 use gg_trace::Trace;
 use gg_workers::work;
-use net_helpers::{build_alone, design_of, inputs_of, is_at_most, keeps, request_of};
 use std::alloc::Global;
 use std::marker::Brand;
 use std::thread::Threads;

@@ -1,12 +1,12 @@
 //! Runs with rings, from tables: few and many workers, cycles up to which machines are stepped, channels of capacity 1, direct channels,
 //! pipes, and a host without threads.
-use crate::workers::runs::{Table, is_expected};
-use gg_io::NoGate;
-use gg_ring::Ring;
-use net_helpers::{
+use crate::texts::{
     BACK, FORK, FORK_TRACE, FOUR_PORTS, FOUR_PORTS_TRACE, PAIR, PAIR_TRACE, SUMS, SUMS_TRACE,
     THREE_CYCLES, TOGGLE,
 };
+use crate::workers::runs::{Table, is_expected};
+use gg_io::NoGate;
+use gg_ring::Ring;
 use std::alloc::Global;
 use std::process::Abort;
 use std::thread::Threads;

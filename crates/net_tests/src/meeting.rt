@@ -39,8 +39,8 @@ impl Flags {
     }
 }
 
-/// A gate at which each of two workers waits for the other before its first turn.
-pub struct Meeting {
+// A gate at which each of two workers waits for the other before its first turn.
+pub(crate) struct Meeting {
     first: Flags,
     second: Flags,
 }
@@ -54,16 +54,16 @@ impl Drop for Meeting {
 }
 
 impl Meeting {
-    /// A gate that no worker has passed.
-    pub fn new() -> Meeting {
+    // A gate that no worker has passed.
+    pub(crate) fn new() -> Meeting {
         Meeting {
             first: Flags::new(),
             second: Flags::new(),
         }
     }
 
-    /// Whether each of the two workers has seen the other there.
-    pub fn has_met(&self) -> bool {
+    // Whether each of the two workers has seen the other there.
+    pub(crate) fn has_met(&self) -> bool {
         self.first.met.load(Ordering::SeqCst) == 1 && self.second.met.load(Ordering::SeqCst) == 1
     }
 }

@@ -1,8 +1,8 @@
 use Rattle.std.proofs.Common.{◌≡◌, ap, ◌∙◌}
 use Rattle.gg_flat.specs.Circuit.{FlatCircuit}
 use Rattle.gg_flat.specs.Ports.{in_ports}
-use Rattle.net_helpers.proofs.PortLemmas.{ports-distinct, ports-fed}
-use Rattle.net_helpers.proofs.reading.inputs_of.Goals as goal
+use Rattle.net_tests.proofs.PortLemmas.{ports-distinct, ports-fed}
+use Rattle.net_tests.proofs.reading.inputs_of.Goals as goal
 
 pub read_trace-requires : goal.read_trace-requires
 read_trace-requires c =

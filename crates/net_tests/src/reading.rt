@@ -15,8 +15,8 @@ use std::alloc::Global;
 // The most bytes that a text may have here.
 const LIMIT: usize = 4_194_304;
 
-/// The design of a circuit. `None` if it has a fault or is too long, or if an allocation fails.
-pub fn design_of(alloc: Global, circuit: &str) -> Option<Design>
+// The design of a circuit. `None` if it has a fault or is too long, or if an allocation fails.
+pub(crate) fn design_of(alloc: Global, circuit: &str) -> Option<Design>
     ensures keeps { IfSome result (λ design. KeepsToTree design.circuit design.tree) }
     ensures held { IfSome result (λ design. AreHeldOnce design.circuit) }
     ensures free { IfSome result (λ design. HasFreeFronts design.circuit) }
@@ -34,8 +34,8 @@ pub fn design_of(alloc: Global, circuit: &str) -> Option<Design>
     }
 }
 
-/// The request of a partition. `None` if it has a fault or is too long, or if an allocation fails.
-pub fn request_of(alloc: Global, partition: &str) -> Option<Request>
+// The request of a partition. `None` if it has a fault or is too long, or if an allocation fails.
+pub(crate) fn request_of(alloc: Global, partition: &str) -> Option<Request>
     ensures { IfSome result IsSmall }
 {
     let bytes = partition.as_bytes();
@@ -51,8 +51,8 @@ pub fn request_of(alloc: Global, partition: &str) -> Option<Request>
     }
 }
 
-/// What a trace gives the inputs of a design. `None` if it has a fault, or if an allocation fails.
-pub fn inputs_of(alloc: Global, design: &Design, trace: &str) -> Option<Trace>
+// What a trace gives the inputs of a design. `None` if it has a fault, or if an allocation fails.
+pub(crate) fn inputs_of(alloc: Global, design: &Design, trace: &str) -> Option<Trace>
     ensures { IfSome result (λ trace. IsColumns design.now.circuit trace.rows trace.columns) }
 {
     let piece = design.piece();

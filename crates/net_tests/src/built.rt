@@ -10,12 +10,8 @@ use gg_net::{Net, Streams};
 use gg_trace::Trace;
 use std::alloc::{AllocError, Global};
 
-/// The network of a plan without bridges, before its first cycle.
-///
-/// # Errors
-///
-/// Returns `AllocError` if an allocation fails.
-pub fn build_alone<'a, Z: Streams>(
+// The network of a plan without bridges, before its first cycle.
+pub(crate) fn build_alone<'a, Z: Streams>(
     alloc: Global,
     plan: &'a Plan,
     inputs: &Trace,
@@ -28,8 +24,8 @@ pub fn build_alone<'a, Z: Streams>(
     Ok(net)
 }
 
-/// Whether no machine is above a cycle.
-pub fn is_at_most<Z: Streams>(net: &Net<Node<'_, Echo>, Z>, cycle: u64) -> bool
+// Whether no machine is above a cycle.
+pub(crate) fn is_at_most<Z: Streams>(net: &Net<Node<'_, Echo>, Z>, cycle: u64) -> bool
     ensures { result ≡ true → (m : ℕ) → m < length net.now.machines → cycle_at net.now m ≤ cycle }
 {
     net.within_limits();
@@ -41,8 +37,8 @@ pub fn is_at_most<Z: Streams>(net: &Net<Node<'_, Echo>, Z>, cycle: u64) -> bool
     true
 }
 
-/// Whether the last machine is a tray that keeps these values, one for each cycle from 0 on.
-pub fn keeps<Z: Streams>(net: &Net<Node<'_, Echo>, Z>, values: &[u128]) -> bool {
+// Whether the last machine is a tray that keeps these values, one for each cycle from 0 on.
+pub(crate) fn keeps<Z: Streams>(net: &Net<Node<'_, Echo>, Z>, values: &[u128]) -> bool {
     net.within_limits();
     let machines = net.machines();
     if machines == 0 {

@@ -1,6 +1,6 @@
 use Rattle.gg_front.proofs.FreshLemmas.{none-bridged, none-piped}
 use Rattle.gg_front.proofs.HeldLemmas.{held-once}
-use Rattle.net_helpers.proofs.reading.design_of.Goals as goal
+use Rattle.net_tests.proofs.reading.design_of.Goals as goal
 
 pub returns-in-Ok-clause-held : goal.returns-in-Ok-clause-held
 returns-in-Ok-clause-held c = held-once c.in-Ok.design.circuit c.in-Ok.ensures.ok.means.formed c.in-Ok.ensures.held
