@@ -37,18 +37,26 @@ pub(crate) fn is_at_most<Z: Streams>(net: &Net<Node<'_, Echo>, Z>, cycle: u64) -
     true
 }
 
+// A value of a case. `None`: it is none.
+pub(crate) fn value_of(digits: &str) -> Option<u128> {
+    u128::from_str_radix(digits, 16).ok()
+}
+
 // Whether the last machine is a tray that keeps these values, one for each cycle from 0 on.
-pub(crate) fn keeps<Z: Streams>(net: &Net<Node<'_, Echo>, Z>, values: &[u128]) -> bool {
+pub(crate) fn keeps<Z: Streams>(net: &Net<Node<'_, Echo>, Z>, values: &str) -> bool {
     net.within_limits();
     let machines = net.machines();
     if machines == 0 {
         return false;
     }
     let tray = net.host((machines - 1) as u32);
-    for (cycle, value) in values.iter().enumerate() {
-        if tray.value(cycle as u64) != Some(*value) {
+    let mut cycle: u64 = 0;
+    for digits in values.split(' ') {
+        let value = value_of(digits);
+        if value.is_none() || tray.value(cycle) != value {
             return false;
         }
+        cycle = cycle.saturating_add(1);
     }
-    tray.value(values.len() as u64).is_none()
+    tray.value(cycle).is_none()
 }

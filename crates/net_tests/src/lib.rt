@@ -4,9 +4,10 @@
 //! - `networks`, with `direct`, `pipes` and `sharing`: networks that begin at cycle 0;
 //! - `circuits`: simulators, parts and needs, units, clocks, trays, logs of a replay, and networks that begin at a later cycle;
 //! - `bridges`, `links`, `workers`: gg_bridge, the links between threads, and gg_workers;
-//! - `texts`, `reading`, `built`, `meeting`: what they share.
+//! - `cases`, `texts`, `reading`, `built`, `meeting`: what they share.
 //!
-//! A row of a table is a circuit and what is expected of it. One loop goes over all tables of a kind, since each further test function
+//! A row of a table is a circuit and what is expected of it. Those of `networks` and `workers` are texts, since a table of many slices makes the proof of its
+//! test long. One loop goes over all tables of a kind, since each further test function
 //! makes the proof longer.
 //!
 //! A value of a design, a piece, a plan or a network makes a proof long: it is dropped once for each way out of the function that owns it.
@@ -17,6 +18,8 @@
 mod bridges;
 #[cfg(test)]
 mod built;
+#[cfg(test)]
+mod cases;
 #[cfg(test)]
 mod circuits;
 #[cfg(test)]

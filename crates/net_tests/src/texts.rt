@@ -20,23 +20,18 @@ pub(crate) const TOGGLE: &str =
 pub(crate) const PAIR: &str =
     "circuit Pair :\nmodule A :\ninput clock : Clock\ninput x : UInt<8>\ninput k : UInt<8>\noutput p : UInt<8>\noutput q : UInt<8>\np <= x\nq <= xor(x, k)\nmodule B :\ninput m : UInt<8>\noutput n : UInt<8>\nn <= bits(shl(m, 1), 7, 0)\nmodule Pair :\ninput clock : Clock\ninput x : UInt<8>\noutput q : UInt<8>\ninst a of A\ninst b of B\na.clock <= clock\na.x <= x\nb.m <= a.p\na.k <= b.n\nq <= a.q\n";
 
-// A trace of two cycles for the two units.
-pub(crate) const PAIR_TRACE: &str = "cycle x\n0 0f\n1 81\n";
-
 // Two instances of a module, each with a memory inside that sums up its input. The one takes the input, the other its complement.
 pub(crate) const SUMS: &str =
     "circuit Two :\nmodule Sum :\ninput clock : Clock\ninput a : UInt<8>\noutput s : UInt<8>\nmem m :\ndata-type => UInt<8>\ndepth => 2\nread-latency => 0\nwrite-latency => 1\nreader => r\nwriter => w\nread-under-write => undefined\nm.r.addr <= UInt<1>(0)\nm.r.en <= UInt<1>(1)\nm.r.clk <= clock\nm.w.addr <= UInt<1>(0)\nm.w.en <= UInt<1>(1)\nm.w.clk <= clock\nm.w.mask <= UInt<1>(1)\nm.w.data <= bits(add(m.r.data, a), 7, 0)\ns <= m.r.data\nmodule Two :\ninput clock : Clock\ninput x : UInt<8>\noutput p : UInt<8>\noutput q : UInt<8>\ninst u of Sum\ninst v of Sum\nu.clock <= clock\nv.clock <= clock\nu.a <= x\nv.a <= not(x)\np <= u.s\nq <= v.s\n";
 
-// A trace of three cycles for the two sums.
-pub(crate) const SUMS_TRACE: &str = "cycle x\n0 01\n1 10\n2 00\n";
+// Four instances of that module. Their outputs are one.
+pub(crate) const FOUR: &str =
+    "circuit Four :\nmodule Sum :\ninput clock : Clock\ninput a : UInt<8>\noutput s : UInt<8>\nmem m :\ndata-type => UInt<8>\ndepth => 2\nread-latency => 0\nwrite-latency => 1\nreader => r\nwriter => w\nread-under-write => undefined\nm.r.addr <= UInt<1>(0)\nm.r.en <= UInt<1>(1)\nm.r.clk <= clock\nm.w.addr <= UInt<1>(0)\nm.w.en <= UInt<1>(1)\nm.w.clk <= clock\nm.w.mask <= UInt<1>(1)\nm.w.data <= bits(add(m.r.data, a), 7, 0)\ns <= m.r.data\nmodule Four :\ninput clock : Clock\ninput x : UInt<8>\noutput q : UInt<32>\ninst u of Sum\ninst v of Sum\ninst w of Sum\ninst z of Sum\nu.clock <= clock\nv.clock <= clock\nw.clock <= clock\nz.clock <= clock\nu.a <= x\nv.a <= not(x)\nw.a <= xor(x, UInt<8>(240))\nz.a <= bits(shl(x, 1), 7, 0)\nq <= cat(cat(u.s, v.s), cat(w.s, z.s))\n";
 
 // Three instances of a module that sums up its input. The first takes the input, and the other two and an output take its
 // sum. Another output is the input.
 pub(crate) const FORK: &str =
     "circuit Fork :\nmodule Acc :\ninput clock : Clock\ninput a : UInt<8>\noutput s : UInt<8>\nreg r : UInt<8>, clock\ns <= r\nr <= bits(add(r, a), 7, 0)\nmodule Fork :\ninput clock : Clock\ninput x : UInt<8>\noutput y : UInt<8>\noutput z : UInt<8>\noutput q : UInt<16>\ninst u of Acc\ninst v of Acc\ninst w of Acc\nu.clock <= clock\nv.clock <= clock\nw.clock <= clock\nu.a <= x\nv.a <= u.s\nw.a <= u.s\ny <= u.s\nz <= x\nq <= cat(v.s, w.s)\n";
-
-// A trace of four cycles for the three sums.
-pub(crate) const FORK_TRACE: &str = "cycle x\n0 01\n1 10\n2 00\n3 05\n";
 
 // An instance that takes its own output, and sums up the input with it.
 pub(crate) const BACK: &str =
@@ -45,9 +40,6 @@ pub(crate) const BACK: &str =
 // A memory of three words with two readers and two writers, all at one address.
 pub(crate) const FOUR_PORTS: &str =
     "circuit Mem :\nmodule Mem :\ninput clock : Clock\ninput a : UInt<2>\ninput v : UInt<8>\noutput o0 : UInt<8>\noutput o1 : UInt<8>\nmem m :\ndata-type => UInt<8>\ndepth => 3\nread-latency => 0\nwrite-latency => 1\nreader => r\nreader => s\nwriter => w\nwriter => x\nread-under-write => undefined\nm.r.clk <= clock\nm.s.clk <= clock\nm.w.clk <= clock\nm.x.clk <= clock\nm.r.addr <= a\nm.s.addr <= a\nm.w.addr <= a\nm.x.addr <= a\nm.r.en <= UInt<1>(\"h1\")\nm.s.en <= bits(v, 0, 0)\nm.w.en <= UInt<1>(\"h1\")\nm.x.en <= UInt<1>(\"h1\")\nm.w.mask <= UInt<1>(\"h1\")\nm.x.mask <= UInt<1>(\"h1\")\nm.w.data <= v\nm.x.data <= not(v)\no0 <= m.r.data\no1 <= m.s.data\n";
-
-// A trace of four cycles for that memory.
-pub(crate) const FOUR_PORTS_TRACE: &str = "cycle a v\n0 1 0f\n1 1 21\n2 3 55\n3 1 00\n";
 
 // A trace of three cycles without inputs.
 pub(crate) const THREE_CYCLES: &str = "cycle\n0\n1\n2\n";
