@@ -408,11 +408,12 @@ fn is_network(alloc: Global, circuit: &str, partition: &str, trace: &str, case: 
 
 // The same for the circuit and the trace of a case.
 fn is_right(alloc: Global, partition: &str, case: &Case<'_>) -> bool {
-    match (circuit_of(alloc, case.text), trace_of(alloc, case.text)) {
-        (Ok(circuit), Ok(trace)) => {
-            is_network(alloc, circuit.as_str(), partition, trace.as_str(), case)
-        }
-        _ => false,
+    match circuit_of(alloc, case.text) {
+        Ok(circuit) => match trace_of(alloc, case.text) {
+            Ok(trace) => is_network(alloc, circuit.as_str(), partition, trace.as_str(), case),
+            Err(_) => false,
+        },
+        Err(_) => false,
     }
 }
 

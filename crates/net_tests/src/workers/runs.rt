@@ -266,11 +266,14 @@ pub(crate) fn is_expected<R: Threads + Sync, L: Link, G: Gate + Sync>(
     row: Row,
     gate: &G,
 ) -> bool {
-    match (circuit_of(alloc, case), trace_of(alloc, case)) {
-        (Ok(circuit), Ok(trace)) => {
-            let (circuit, trace) = (circuit.as_str(), trace.as_str());
-            is_network::<R, L, G>(rt, home, alloc, circuit, trace, case, row, gate)
-        }
-        _ => false,
+    match circuit_of(alloc, case) {
+        Ok(circuit) => match trace_of(alloc, case) {
+            Ok(trace) => {
+                let (circuit, trace) = (circuit.as_str(), trace.as_str());
+                is_network::<R, L, G>(rt, home, alloc, circuit, trace, case, row, gate)
+            }
+            Err(_) => false,
+        },
+        Err(_) => false,
     }
 }
