@@ -1,8 +1,9 @@
-//! Each command with each of its loads and each of its puts failing in turn: the calls of tables/printing.rt.
+//! Each command with each of its loads and each of its puts failing in turn, and refusals that can't be told: the calls of tables/printing.rt and
+//! of tables/refused.rt.
 use crate::calls::call;
 use crate::outputs::{Full, Narrow, status_on};
 use crate::row::Row;
-use crate::tables::printing::ROWS;
+use crate::tables::{printing, refused};
 use crate::texts::edited;
 use crate::ways::files_lent;
 use gg_io::StreamSink;
@@ -44,17 +45,6 @@ fn are_unloaded<R: Threads + Sync>(
     Ok(row.end == Some((0, load)))
 }
 
-#[test]
-fn each_load_fails(rt: HostRuntime) -> Result<(), Fail> {
-    for paragraph in ROWS.split("\n\n") {
-        let mut row = Row::new(rt.alloc());
-        assert!(rt; row.take_all(rt.alloc(), paragraph)?, "{paragraph}");
-        assert!(rt; row.finish(rt.alloc())?, "{paragraph}");
-        assert!(rt; are_unloaded(&rt, rt.alloc(), &row)?, "{paragraph}");
-    }
-    Ok(())
-}
-
 // Whether a call where `out` takes so many bytes, and `err` so many, ends with status 4, and with these bytes of its text and of its line.
 fn is_stopped<R: Threads + Sync>(
     rt: &R,
@@ -75,19 +65,18 @@ fn is_stopped<R: Threads + Sync>(
     )
 }
 
-// The line has 21 bytes. So `err` fails after each of them too, or takes them all.
-#[test]
-fn out_fails_after_each_byte(rt: HostRuntime) -> Result<(), Fail> {
-    for paragraph in ROWS.split("\n\n") {
-        let mut row = Row::new(rt.alloc());
-        assert!(rt; row.take_all(rt.alloc(), paragraph)?, "{paragraph}");
-        assert!(rt; row.finish(rt.alloc())?, "{paragraph}");
-        for room in 0..row.out.len() {
-            let is_right = is_stopped(&rt, rt.alloc(), &row, room, room % 22)?;
-            assert!(rt; is_right, "{room} bytes: {paragraph}");
+// Whether it ends so after each byte of its text. The line has 21 bytes: so `err` fails after each of them too, or takes them all.
+fn are_stopped<R: Threads + Sync>(
+    rt: &R,
+    alloc: Global,
+    row: &Row<'_>,
+) -> Result<bool, AllocError> {
+    for room in 0..row.out.len() {
+        if !is_stopped(rt, alloc, row, room, room % 22)? {
+            return Ok(false);
         }
     }
-    Ok(())
+    Ok(true)
 }
 
 // Whether a call where `out` has memory for so many puts ends with this status, this text and this line.
@@ -123,16 +112,95 @@ fn is_without_memory<R: Threads + Sync>(
     ends_with_memory(rt, alloc, row, room, 5, front.as_slice(), line)
 }
 
-#[test]
-fn each_put_finds_no_memory(rt: HostRuntime) -> Result<(), Fail> {
-    for paragraph in ROWS.split("\n\n") {
-        let mut row = Row::new(rt.alloc());
-        assert!(rt; row.take_all(rt.alloc(), paragraph)?, "{paragraph}");
-        assert!(rt; row.finish(rt.alloc())?, "{paragraph}");
-        for room in 0..row.puts_made().saturating_add(1) {
-            let is_right = is_without_memory(&rt, rt.alloc(), &row, room)?;
-            assert!(rt; is_right, "memory for {room} puts: {paragraph}");
+// Whether it ends so for each count of puts.
+fn are_without_memory<R: Threads + Sync>(
+    rt: &R,
+    alloc: Global,
+    row: &Row<'_>,
+) -> Result<bool, AllocError> {
+    for room in 0..row.puts_made().saturating_add(1) {
+        if !is_without_memory(rt, alloc, row, room)? {
+            return Ok(false);
+        }
+    }
+    Ok(true)
+}
+
+// The status of a row's call where `out` takes nothing, and `err` so many bytes, if these are all that is told first. `None` if not.
+fn status_told<R: Threads + Sync>(
+    rt: &R,
+    alloc: Global,
+    row: &Row<'_>,
+    room: usize,
+) -> Result<Option<u8>, AllocError> {
+    let mut out = StreamSink::new(Narrow::new(alloc, 0));
+    let mut err = Narrow::new(alloc, room);
+    let status = status_on(rt, alloc, row, &mut out, &mut err)?;
+    Ok(if err.holds_front(row.err.as_slice()) {
+        Some(status)
+    } else {
+        None
+    })
+}
+
+// Whether a refused call has its status after each byte of what it tells. No status changes where `err` fails, and nothing is put on `out`.
+fn are_told<R: Threads + Sync>(rt: &R, alloc: Global, row: &Row<'_>) -> Result<bool, AllocError> {
+    let status = row.end.map(|end| end.0);
+    for room in 0..row.err.len().saturating_add(1) {
+        if status_told(rt, alloc, row, room)? != status {
+            return Ok(false);
+        }
+    }
+    Ok(true)
+}
+
+// What fails in turn: each load, `out` after each byte, memory for each put on it, or `err` after each byte.
+enum Turn {
+    Load,
+    Out,
+    Memory,
+    Err,
+}
+
+// Checks that each call of a text ends as it has to where something fails in turn.
+fn check_turns<R: Threads + Sync>(
+    rt: &R,
+    alloc: Global,
+    text: &str,
+    turn: &Turn,
+) -> Result<(), Fail> {
+    for paragraph in text.split("\n\n") {
+        let mut row = Row::new(alloc);
+        let is_read = row.take_all(alloc, paragraph)? && row.finish(alloc)?;
+        let is_right = match turn {
+            Turn::Load => are_unloaded(rt, alloc, &row)?,
+            Turn::Out => are_stopped(rt, alloc, &row)?,
+            Turn::Memory => are_without_memory(rt, alloc, &row)?,
+            Turn::Err => are_told(rt, alloc, &row)?,
+        };
+        if !is_read || !is_right {
+            return Err(Fail::new(format_args!("{paragraph}")));
         }
     }
     Ok(())
+}
+
+#[test]
+fn each_load_fails(rt: HostRuntime) -> Result<(), Fail> {
+    check_turns(&rt, rt.alloc(), printing::ROWS, &Turn::Load)
+}
+
+#[test]
+fn out_fails_after_each_byte(rt: HostRuntime) -> Result<(), Fail> {
+    check_turns(&rt, rt.alloc(), printing::ROWS, &Turn::Out)
+}
+
+#[test]
+fn each_put_finds_no_memory(rt: HostRuntime) -> Result<(), Fail> {
+    check_turns(&rt, rt.alloc(), printing::ROWS, &Turn::Memory)
+}
+
+#[test]
+fn err_fails_after_each_byte(rt: HostRuntime) -> Result<(), Fail> {
+    check_turns(&rt, rt.alloc(), refused::ROWS, &Turn::Err)
 }

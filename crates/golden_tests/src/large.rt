@@ -1,7 +1,7 @@
 //! Calls on texts that are made: at the limits, and past them.
 use super::large::Large::{Blanks, Chain, Clocks, Nested, Nodes, Outputs, Padded, Rows, Units};
 use crate::calls::{Answer, CHECK, RESUME, RUN, ask, ask_of, files_of};
-use crate::texts::{circuit_of, edited};
+use crate::texts::{edited, named_text};
 use crate::ways::run;
 use gg_io::hold;
 use itoa::Buffer;
@@ -197,7 +197,7 @@ fn nested(alloc: Global, depth: usize) -> Result<Vec<u8>, AllocError> {
         text.push_str(")")?;
     }
     text.push_str("\n")?;
-    let counter = circuit_of(alloc, "counter")?;
+    let counter = named_text(alloc, "counter")?;
     edited(alloc, counter.as_slice(), 11, 10, text.as_bytes())
 }
 
@@ -344,13 +344,13 @@ fn ask_chain<R: Threads + Sync>(
 fn run_rows<R: Threads + Sync>(rt: &R, alloc: Global, count: u64) -> Result<Answer, AllocError> {
     let mut trace = String::from_str(alloc, "cycle reset\n")?;
     push_numbered(&mut trace, 0, count, "", " 0001\n")?;
-    let counter = circuit_of(alloc, "counter")?;
+    let counter = named_text(alloc, "counter")?;
     run(rt, alloc, counter.as_slice(), "{}", trace.as_str())
 }
 
 // `run` on the counter with blanks behind it, up to so many bytes.
 fn run_padded<R: Threads + Sync>(rt: &R, alloc: Global, size: usize) -> Result<Answer, AllocError> {
-    let mut bytes = circuit_of(alloc, "counter")?;
+    let mut bytes = named_text(alloc, "counter")?;
     bytes.resize(size, b' ')?;
     let files = files_of(alloc, bytes.as_slice(), "{}", TRACE)?;
     ask(rt, alloc, RUN, files)
@@ -365,7 +365,7 @@ fn ask_blanks<R: Threads + Sync>(
     size: usize,
 ) -> Result<Answer, AllocError> {
     let blanks = vec![in alloc; b' '; size]?;
-    let counter = circuit_of(alloc, "counter")?;
+    let counter = named_text(alloc, "counter")?;
     let mut files = files_of(alloc, counter.as_slice(), "{}", TRACE)?;
     hold(&mut files, alloc, name, blanks.as_slice())?;
     ask(rt, alloc, line, files)

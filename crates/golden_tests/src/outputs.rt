@@ -1,14 +1,12 @@
-//! Outputs that fail or find no memory, and refusals that can't be told: the calls of tables/refused.rt.
+//! Outputs that fail or find no memory, and a row's call on them.
 ghost use Rattle.std.specs.Prelude.{None};
 
 use crate::calls::{call_on, words_of};
 use crate::row::Row;
-use crate::tables::refused::ROWS;
 use crate::ways::files_lent;
 use gg_io::{MemShelf, PutFail, Sink, StreamSink};
 use std::alloc::{AllocError, Global};
 use std::io::{self, Write};
-use std::test::Fail;
 use std::thread::Threads;
 
 // A stream that takes so many bytes, and then fails.
@@ -108,37 +106,4 @@ pub(crate) fn status_on<R: Threads + Sync, K: Sink>(
     let mut shelf = MemShelf::new(files, Vec::new(alloc));
     let mut err = StreamSink::new(err);
     call_on(rt, alloc, words.as_slice(), &mut shelf, out, &mut err)
-}
-
-// The status of a row's call where `out` takes nothing, and `err` so many bytes, if these are all that is told first. `None` if not.
-fn status_told<R: Threads + Sync>(
-    rt: &R,
-    alloc: Global,
-    row: &Row<'_>,
-    room: usize,
-) -> Result<Option<u8>, AllocError> {
-    let mut out = StreamSink::new(Narrow::new(alloc, 0));
-    let mut err = Narrow::new(alloc, room);
-    let status = status_on(rt, alloc, row, &mut out, &mut err)?;
-    Ok(if err.holds_front(row.err.as_slice()) {
-        Some(status)
-    } else {
-        None
-    })
-}
-
-// No status changes where `err` fails, and nothing is put on `out`.
-#[test]
-fn err_fails_after_each_byte(rt: HostRuntime) -> Result<(), Fail> {
-    for paragraph in ROWS.split("\n\n") {
-        let mut row = Row::new(rt.alloc());
-        assert!(rt; row.take_all(rt.alloc(), paragraph)?, "{paragraph}");
-        assert!(rt; row.finish(rt.alloc())?, "{paragraph}");
-        let status = row.end.map(|end| end.0);
-        for room in 0..row.err.len().saturating_add(1) {
-            let told = status_told(&rt, rt.alloc(), &row, room)?;
-            assert!(rt; told == status, "{room} bytes: {paragraph}");
-        }
-    }
-    Ok(())
 }

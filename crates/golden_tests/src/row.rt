@@ -204,9 +204,10 @@ impl<'a> Row<'a> {
         more: Vec<u8>,
     ) -> Result<bool, AllocError> {
         let (name, edit) = source.split_once(", ").unwrap_or((source, ""));
-        let Some(mut text) = named_text(alloc, name)? else {
+        let mut text = named_text(alloc, name)?;
+        if text.is_empty() {
             return Ok(false);
-        };
+        }
         if edit.is_empty() {
             text.extend_from_slice(more.as_slice())?;
         } else {

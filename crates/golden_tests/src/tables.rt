@@ -26,7 +26,10 @@ use std::test::Fail;
 
 #[test]
 fn circuits_run(rt: HostRuntime) -> Result<(), Fail> {
-    check_rows(&rt, rt.alloc(), "circuits", circuits::ROWS)
+    let alloc = rt.alloc();
+    check_rows(&rt, alloc, "RUNS", circuits::RUNS)?;
+    check_rows(&rt, alloc, "WHOLE", circuits::WHOLE)?;
+    check_rows(&rt, alloc, "CUT", circuits::CUT)
 }
 
 #[test]
@@ -56,7 +59,12 @@ fn files_and_outputs_fail(rt: HostRuntime) -> Result<(), Fail> {
 
 #[test]
 fn cuts_are_printed(rt: HostRuntime) -> Result<(), Fail> {
-    check_rows(&rt, rt.alloc(), "cuts", cuts::ROWS)
+    let alloc = rt.alloc();
+    check_rows(&rt, alloc, "UNIT_CUTS", cuts::UNIT_CUTS)?;
+    check_rows(&rt, alloc, "HOST_CUTS", cuts::HOST_CUTS)?;
+    check_rows(&rt, alloc, "ORDER_CUTS", cuts::ORDER_CUTS)?;
+    check_rows(&rt, alloc, "ROUTED", cuts::ROUTED)?;
+    check_rows(&rt, alloc, "CUT_FAULTS", cuts::CUT_FAULTS)
 }
 
 #[test]
@@ -66,7 +74,9 @@ fn partitions_run_or_are_refused(rt: HostRuntime) -> Result<(), Fail> {
 
 #[test]
 fn steps_are_done(rt: HostRuntime) -> Result<(), Fail> {
-    check_rows(&rt, rt.alloc(), "steps", steps::ROWS)
+    let alloc = rt.alloc();
+    check_rows(&rt, alloc, "COUNTER_STEPS", steps::COUNTER_STEPS)?;
+    check_rows(&rt, alloc, "STEPS_DONE", steps::STEPS_DONE)
 }
 
 #[test]
@@ -76,7 +86,13 @@ fn steps_are_refused(rt: HostRuntime) -> Result<(), Fail> {
 
 #[test]
 fn bridges_run(rt: HostRuntime) -> Result<(), Fail> {
-    check_rows(&rt, rt.alloc(), "bridges", bridges::ROWS)
+    let alloc = rt.alloc();
+    check_rows(&rt, alloc, "BRIDGED", bridges::BRIDGED)?;
+    check_rows(&rt, alloc, "BRIDGED_WAYS", bridges::BRIDGED_WAYS)?;
+    check_rows(&rt, alloc, "BRIDGED_CUTS", bridges::BRIDGED_CUTS)?;
+    check_rows(&rt, alloc, "BRIDGED_STEPS", bridges::BRIDGED_STEPS)?;
+    check_rows(&rt, alloc, "BRIDGED_TRACES", bridges::BRIDGED_TRACES)?;
+    check_rows(&rt, alloc, "BRIDGES_UNSAVED", bridges::BRIDGES_UNSAVED)
 }
 
 #[test]
@@ -86,7 +102,17 @@ fn bridges_are_refused(rt: HostRuntime) -> Result<(), Fail> {
 
 #[test]
 fn clocks_have_ratios(rt: HostRuntime) -> Result<(), Fail> {
-    check_rows(&rt, rt.alloc(), "clocks", clocks::ROWS)
+    let alloc = rt.alloc();
+    check_rows(&rt, alloc, "CLOCKED", clocks::CLOCKED)?;
+    check_rows(&rt, alloc, "CLOCK_CUTS", clocks::CLOCK_CUTS)?;
+    check_rows(&rt, alloc, "HANDSHAKES", clocks::HANDSHAKES)?;
+    check_rows(&rt, alloc, "CLOCK_FAULTS", clocks::CLOCK_FAULTS)?;
+    check_rows(
+        &rt,
+        alloc,
+        "SERVED_WITHOUT_AN_EDGE",
+        clocks::SERVED_WITHOUT_AN_EDGE,
+    )
 }
 
 #[test]
@@ -101,7 +127,12 @@ fn workers_run(rt: HostRuntime) -> Result<(), Fail> {
 
 #[test]
 fn runs_are_saved_and_resumed(rt: HostRuntime) -> Result<(), Fail> {
-    check_rows(&rt, rt.alloc(), "snaps", snaps::ROWS)
+    let alloc = rt.alloc();
+    check_rows(&rt, alloc, "SAVED", snaps::SAVED)?;
+    check_rows(&rt, alloc, "SAVED_STOPS", snaps::SAVED_STOPS)?;
+    check_rows(&rt, alloc, "RESUMED", snaps::RESUMED)?;
+    check_rows(&rt, alloc, "MOVED", snaps::MOVED)?;
+    check_rows(&rt, alloc, "MOVED_CLOCKS", snaps::MOVED_CLOCKS)
 }
 
 #[test]

@@ -1,5 +1,5 @@
 //! Texts in rows: how one is written there, texts that have a name, and texts with a line changed.
-use crate::tables::named::NAMED;
+use crate::tables::named::{CIRCUITS, CLOCKED, MORE};
 use std::alloc::{AllocError, Global};
 
 // Adds the lines that stand behind a bar. Each begins behind one. Returns false if the first doesn't.
@@ -57,26 +57,31 @@ pub(crate) fn push_text(text: &mut Vec<u8>, written: &str) -> Result<bool, Alloc
     Ok(true)
 }
 
-// The text of this name. `None`: there is none.
-pub(crate) fn named_text(alloc: Global, name: &str) -> Result<Option<Vec<u8>>, AllocError> {
+// The text of this name, of these. It is empty if there is none.
+fn text_in(alloc: Global, texts: &str, name: &str) -> Result<Vec<u8>, AllocError> {
     let mut text = Vec::new(alloc);
     let mut is_in = false;
-    for line in NAMED.lines() {
+    for line in texts.lines() {
         if !line.starts_with('|') {
             is_in = line == name;
         } else if is_in {
             push_lines(&mut text, line)?;
         }
     }
-    Ok(if text.is_empty() { None } else { Some(text) })
+    Ok(text)
 }
 
-// The same, where there is one. Else it is empty.
-pub(crate) fn circuit_of(alloc: Global, name: &str) -> Result<Vec<u8>, AllocError> {
-    match named_text(alloc, name)? {
-        Some(text) => Ok(text),
-        None => Ok(Vec::new(alloc)),
+// The text of this name. It is empty if there is none.
+pub(crate) fn named_text(alloc: Global, name: &str) -> Result<Vec<u8>, AllocError> {
+    let circuit = text_in(alloc, CIRCUITS, name)?;
+    if !circuit.is_empty() {
+        return Ok(circuit);
     }
+    let more = text_in(alloc, MORE, name)?;
+    if !more.is_empty() {
+        return Ok(more);
+    }
+    text_in(alloc, CLOCKED, name)
 }
 
 // How many lines a text has. The last one may have no end.

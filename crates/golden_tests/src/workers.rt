@@ -2,7 +2,7 @@
 ghost use Rattle.std.specs.Prelude.{None};
 
 use crate::calls::{files_of, words_of};
-use crate::texts::circuit_of;
+use crate::texts::named_text;
 use gg_io::{Gate, PutFail, Sink, SureShelf, SureSink};
 use golden::golden;
 use std::alloc::{AllocError, Global};
@@ -76,7 +76,7 @@ impl<'a> Sink for WatchingSink<'a> {
 fn meets<R: Threads + Sync>(rt: &R, alloc: Global, gate: &Meeting) -> Result<bool, AllocError> {
     let line = "golden run k1.fir p.json k1.trace --capacity 1 --workers 2";
     let words = words_of(alloc, line)?;
-    let circuit = circuit_of(alloc, "pair")?;
+    let circuit = named_text(alloc, "pair")?;
     let files = files_of(
         alloc,
         circuit.as_slice(),

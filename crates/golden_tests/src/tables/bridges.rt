@@ -1,7 +1,7 @@
 //! Runs with echoes, and what `check`, `replay`, `save` and `resume` make of them. Expected texts are worked by a model in Python that has nothing
 //! of golden, and the short ones by hand from docs/FORMATS.md.
 
-pub(crate) const ROWS: &str = r#"
+pub(crate) const BRIDGED: &str = r#"
 given
 # An echo that sees `q` and drives `x`; the same in a cut, with hosts that are shared and channels of one token, with pipes before and behind the
 # echo, and with a clock that has an edge in each second cycle. Two echoes of one kind, the one fed by way of the other; the same in the other
@@ -88,7 +88,9 @@ k1.fir = two
 p.json: {"bridges":[]}
 k1.trace | cycle x | 0 01 | 1 10 | 2 00
 prints after 3 loads | cycle p q | 0 00 00 | 1 01 fe | 2 11 ed
+"#;
 
+pub(crate) const BRIDGED_WAYS: &str = r#"
 given
 # The same with channels of one token, without workers and with two, by the simulator, and with as many of both as there may be; and where a put on
 # `out` takes three bytes and fails.
@@ -114,7 +116,9 @@ $ golden run k1.fir p.json k1.trace --workers 2
 out fails at put 2, byte 3
 out: "cycle p\n0 00\n1 0"
 status 4 after 3 loads | golden: cannot write
+"#;
 
+pub(crate) const BRIDGED_CUTS: &str = r#"
 given
 # Bridges as machines, behind all others: in a cut; with direct channels, of which none begins or ends at a source that an echo takes the place of,
 # and one goes from a unit to the echo; two of them.
@@ -152,7 +156,9 @@ prints after 2 loads
 | channel c hub: bridge:echo8 UInt<8> capacity 1 needs b
 | channel e hub: out:e UInt<16> capacity 2 needs a b
 | channel d hub: bridge:other8 UInt<8> capacity 2 needs a s
+"#;
 
+pub(crate) const BRIDGED_STEPS: &str = r#"
 given
 # Steps of an echo: it says what it has before it sees anything, once a cycle, and ends a cycle when it has seen all.
 $ golden replay k1.fir p.json k1.trace s.steps
@@ -166,7 +172,9 @@ prints after 4 loads | x 2/1 00 00 | p 2/0 00 00 | q 1/1 00
 s.steps | fire x | fire x -> status 9 after 4 loads | golden: step 2: Fired
 s.steps | fire x | finish bridge:echo8 -> status 9 after 4 loads | golden: step 2: NeedsInput q
 s.steps | fire x | latch x | fire q | latch q | finish bridge:echo8 | fire q -> status 9 after 4 loads | golden: step 6: Fired
+"#;
 
+pub(crate) const BRIDGED_TRACES: &str = r#"
 given
 # Traces that name an input that a bridge drives, or that lack another.
 $ golden run k1.fir p.json k1.trace, in each way
@@ -181,7 +189,9 @@ status 7 after 3 loads | golden: trace: T1 field 1
 k1.trace | cycle a s b -> status 7 after 3 loads | golden: trace: T1 field 1
 k1.trace | cycle s -> status 7 after 3 loads | golden: trace: T1 field 2
 k1.trace | cycle s b | 0 01 02 | 1 1 -> status 7 after 3 loads | golden: trace: T5 row 1 2
+"#;
 
+pub(crate) const BRIDGES_UNSAVED: &str = r#"
 given
 # `save` and `resume` take no bridges, which is the last fault of a partition. They take a list without entries.
 $ golden save k1.fir p.json k1.trace 2, in each way

@@ -1,6 +1,6 @@
 //! Circuits that are run.
 
-pub(crate) const ROWS: &str = r#"
+pub(crate) const RUNS: &str = r#"
 given
 # Circuits of one module.
 $ golden run k1.fir p.json k1.trace, in each way
@@ -198,7 +198,9 @@ prints after 3 loads
 | 3 5d 1 0 0 0 1 018 0a 2f 2f 06 0 0 06 30 2 9 29 00 1 0 1 1 0 7fc 3f 3f 00 f 1 0 7f 78 3 f 3f
 | 4 00 1 0 1 1 0 048 01 09 00 09 0 0 09 48 0 9 09 78 1 0 0 0 1 7e8 00 3d 38 d 0 1 7d 68 0 5 05
 | 5 53 1 0 0 0 1 060 01 33 33 03 0 0 03 18 3 0 30 01 0 1 1 0 1 760 3f 3b 01 b 0 1 7b 58 3 a 3a
+"#;
 
+pub(crate) const WHOLE: &str = r#"
 given
 # Circuits with instances and memories, with a line changed.
 $ golden run k1.fir p.json k1.trace, in each way
@@ -222,7 +224,9 @@ k1.trace | cycle a e v | 0 1 1 11 | 1 1 0 22 | 2 3 1 33 | 3 1 1 44 | 4 0 0 00 ->
 
 k1.fir = late, line 15 | read-under-write => old
 k1.trace | cycle a e v | 0 1 1 11 | 1 1 0 22 | 2 3 1 33 | 3 1 1 44 | 4 0 0 00 -> prints after 3 loads | cycle o | 0 00 | 1 00 | 2 00 | 3 00 | 4 22
+"#;
 
+pub(crate) const CUT: &str = r#"
 given
 # The counter cut after so many lines.
 $ golden run k1.fir p.json k1.trace, in each way

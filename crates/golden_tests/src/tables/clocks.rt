@@ -1,7 +1,7 @@
 //! Circuits with clocks of several ratios: their rows, cut and whole, and the partitions that are refused. Expected texts are worked by a model in
 //! Python that has nothing of golden, and the short ones by hand from docs/FORMATS.md.
 
-pub(crate) const ROWS: &str = r#"
+pub(crate) const CLOCKED: &str = r#"
 given
 # Circuits that aren't cut. Two ratios; no ratio; an edge in each cycle and in each but the first; no edge in six cycles; a name twice, of which the
 # last value counts; a Clock input that nothing uses; one without a register; a memory whose writer has an edge in each second cycle, one whose
@@ -49,7 +49,9 @@ k1.fir = words, line 17 | read-under-write => old
 p.json: {"clocks":{"c2":[1,2]}}
 k1.trace | cycle a v | 0 0 1 | 1 0 2 | 2 0 3 | 3 0 4 | 4 0 5 | 5 1 6
 prints after 3 loads | cycle o q | 0 0 0 | 1 0 0 | 2 0 0 | 3 2 0 | 4 2 2 | 5 4 2
+"#;
 
+pub(crate) const CLOCK_CUTS: &str = r#"
 given
 # Cuts: two units of one module each; with a pipe into the second, and out of the first, which move in each cycle; three units of one module, apart
 # and on one host; two units on one host with their memories inside, and with their memories listed; and the memories from above, listed.
@@ -108,7 +110,9 @@ k1.fir = words, line 17 | read-under-write => old
 p.json: {"clocks":{"c2":[1,2]},"memories":["m"]}
 k1.trace | cycle a v | 0 0 1 | 1 0 2 | 2 0 3 | 3 0 4 | 4 0 5 | 5 1 6
 prints after 3 loads | cycle o q | 0 0 0 | 1 0 0 | 2 0 0 | 3 2 0 | 4 2 2 | 5 4 2
+"#;
 
+pub(crate) const HANDSHAKES: &str = r#"
 given
 # The handshake: whole, cut at the border, with both sides on one host, and with one side in the hub; then with a pipe in the flag that the right
 # side sees, so that it takes a number a cycle later, and where the other clock isn't that of each cycle either.
@@ -139,7 +143,9 @@ prints after 3 loads
 p.json: {"clocks":{"fast":[1,2],"slow":[2,3]},"units":["left","right"],"share":[["left","right"]]}
 prints after 3 loads
 | cycle p q valid | 0 0 0 0 | 1 0 0 0 | 2 2 0 1 | 3 2 2 0 | 4 4 2 1 | 5 4 4 0 | 6 6 4 1 | 7 6 4 1 | 8 6 6 0 | 9 6 6 0 | 10 a 6 1 | 11 a a 0
+"#;
 
+pub(crate) const CLOCK_FAULTS: &str = r#"
 given
 # Ratios that are refused: of another shape, of a clock that isn't there, and out of range.
 $ golden run k1.fir p.json k1.trace, in each way
@@ -179,7 +185,9 @@ p.json: {"pipe":["q","q"],"clocks":{"c3":[1,1]}} -> status 6 after 2 loads | gol
 p.json: {"clocks":{"c2":[4,3],"c3":[1,1]}} -> status 6 after 2 loads | golden: partition: P12 c3
 p.json: {"clocks":{"c4":[1,1],"c3":[0,0]}} -> status 6 after 2 loads | golden: partition: P12 c3
 p.json: {"clocks":{"c2":[2,1],"c1":[0,3]}} -> status 6 after 2 loads | golden: partition: P13 c1 0 3
+"#;
 
+pub(crate) const SERVED_WITHOUT_AN_EDGE: &str = r#"
 given
 # A port whose clock has no edge is served too, and then changes nothing: the memory through a cycle in which its writer has no edge; and the same
 # without the writer's step.

@@ -1,6 +1,6 @@
 //! What `check` prints.
 
-pub(crate) const ROWS: &str = r#"
+pub(crate) const UNIT_CUTS: &str = r#"
 given
 # Cuts that are printed: units, and memories beside them and in them.
 $ golden check k1.fir p.json
@@ -81,7 +81,9 @@ prints after 2 loads
 | channel c.m.r.en c c.m UInt<1> capacity 2 needs -
 | channel c.m.r.data c.m c UInt<4> capacity 2 needs c.m.r.addr c.m.r.en
 | channel y hub: out:y UInt<4> capacity 2 needs c.o
+"#;
 
+pub(crate) const HOST_CUTS: &str = r#"
 given
 # Units on one host, at several depths, and machines that feed themselves.
 $ golden check k1.fir p.json
@@ -211,7 +213,9 @@ prints after 2 loads
 | channel c.m.r.en c c.m UInt<1> capacity 2 needs -
 | channel c.m.r.data c.m c UInt<1> capacity 2 needs -
 | channel y hub: out:y UInt<1> capacity 2 needs t.r.data
+"#;
 
+pub(crate) const ORDER_CUTS: &str = r#"
 given
 # Units against the order of the file, and memories without ports.
 $ golden check k1.fir p.json
@@ -268,7 +272,9 @@ prints after 2 loads
 k1.fir = banks
 p.json: {"units":["u","v"],"share":[["v","u"]],"memories":["v.m","u.m"]}
 prints after 2 loads | machine hub: host 0 | machine u host 1 | machine v host 1 | machine u.m host 2 | machine v.m host 3
+"#;
 
+pub(crate) const ROUTED: &str = r#"
 given
 # The same with direct channels, and with pipes.
 $ golden check k1.fir p.json
@@ -371,7 +377,9 @@ prints after 2 loads
 | channel b.m a b UInt<8> capacity 1 needs a.x
 | channel b.n b hub: UInt<8> capacity 1 pipe needs b.m
 | channel q a out:q UInt<8> capacity 1 needs a.x a.k
+"#;
 
+pub(crate) const CUT_FAULTS: &str = r#"
 given
 # Partitions with a fault, of which the first is told.
 $ golden check k1.fir p.json

@@ -1,6 +1,7 @@
-//! Circuits and steps by name.
+//! Circuits by name, and steps.
 
-pub(crate) const NAMED: &str = r#"
+// Circuits of one clock.
+pub(crate) const CIRCUITS: &str = r#"
 # The counter: its sixth line is empty.
 counter
 | circuit Counter :
@@ -178,7 +179,10 @@ fork
 | module Fork : | input x : UInt<4> | output p : UInt<4> | output q : UInt<5>
 | inst u of Neg | inst v of Neg | inst w of Neg
 | u.a <= x | v.a <= u.b | w.a <= u.b | p <= u.b | q <= add(v.b, w.b)
+"#;
 
+// More of them, and steps.
+pub(crate) const MORE: &str = r#"
 # An instance whose output is the address of a memory, and an output that is read.
 kept
 | circuit Kept :
@@ -268,6 +272,63 @@ loop
 | p.b <= c.d
 | z <= p.e
 
+# A register of a signed number, and one of 128 bits that all turn.
+kinds
+| circuit Kinds :
+| module Kinds : | input clock : Clock | input x : SInt<5> | output y : SInt<5>
+| reg w : UInt<128>, clock | reg s : SInt<5>, clock
+| y <= s | s <= x | w <= not(w)
+
+# A stop where the input is 3.
+halt
+| circuit Halt :
+| module Halt : | input clock : Clock | input x : UInt<2> | output y : UInt<2>
+| y <= x | stop(clock, eq(x, UInt<2>(3)), 1) : done
+
+# A stop where the input is 3, and one where it is odd.
+halt_twice
+| circuit Halt :
+| module Halt : | input clock : Clock | input x : UInt<2> | output y : UInt<2>
+| y <= x | stop(clock, eq(x, UInt<2>(3)), 1) | stop(clock, bits(x, 0, 0), 0)
+
+# A stop in each of two instances, where the input is 1 and where it is 2, and one in the top.
+stops_below
+| circuit Top :
+| module Cell : | input clock : Clock | input i : UInt<2>
+| stop(clock, eq(i, UInt<2>(1)), 1) : done
+| module Top : | input clock : Clock | input x : UInt<2> | output y : UInt<2>
+| inst c of Cell | inst d of Cell
+| c.clock <= clock | d.clock <= clock | c.i <= x | d.i <= not(x) | y <= x | stop(clock, eq(x, UInt<2>(3)), 0) : last
+
+# A stop in an instance in an instance, where the input is 1.
+stop_deep
+| circuit Top :
+| module Core : | input clock : Clock | input i : UInt<2>
+| stop(clock, eq(i, UInt<2>(2)), 1) : done
+| module Tile : | input clock : Clock | input i : UInt<2>
+| inst core of Core
+| core.clock <= clock | core.i <= not(i)
+| module Top : | input clock : Clock | input x : UInt<2> | output y : UInt<2>
+| inst tile of Tile
+| tile.clock <= clock | tile.i <= x | y <= x
+
+# A stop in an instance, and one in the top.
+stop_below
+| circuit Top :
+| module Cell : | input clock : Clock | input i : UInt<2>
+| stop(clock, eq(i, UInt<2>(1)), 1) : done
+| module Top : | input clock : Clock | input x : UInt<2> | output y : UInt<2>
+| inst c of Cell
+| c.clock <= clock | c.i <= x | y <= x | stop(clock, eq(x, UInt<2>(3)), 0) : last
+
+# Fourteen steps of the memory that is listed: both readers have their data.
+read
+| fire a | fire v | latch a | latch v | fire m.r.addr | fire m.r.en | fire m.s.addr | fire m.s.en | latch m.r.addr | latch m.r.en | latch m.s.addr
+| latch m.s.en | fire m.r.data | fire m.s.data
+"#;
+
+// Circuits of two clocks.
+pub(crate) const CLOCKED: &str = r#"
 # The registers of `DUAL` in two instances. The first has a Clock input that it doesn't use before its own, so that it has the top's clocks in the
 # other order.
 parts
@@ -281,19 +342,6 @@ parts
 | module Parts : | input c1 : Clock | input c2 : Clock | output p : UInt<4> | output q : UInt<4>
 | inst count of Count | inst sum of Sum
 | count.spare <= c2 | count.clock <= c1 | sum.clock <= c2 | sum.a <= count.o | p <= count.o | q <= sum.o
-
-# A register of a signed number, and one of 128 bits that all turn.
-kinds
-| circuit Kinds :
-| module Kinds : | input clock : Clock | input x : SInt<5> | output y : SInt<5>
-| reg w : UInt<128>, clock | reg s : SInt<5>, clock
-| y <= s | s <= x | w <= not(w)
-
-# A stop where the input is 3.
-halt
-| circuit Halt :
-| module Halt : | input clock : Clock | input x : UInt<2> | output y : UInt<2>
-| y <= x | stop(clock, eq(x, UInt<2>(3)), 1) : done
 
 # Two instances of a module that sums its input up in a memory. Each has a clock of its own.
 sums
@@ -376,33 +424,6 @@ dual
 | r <= tail(add(r, UInt<1>("h1")), 1)
 | s <= tail(add(s, r), 1)
 
-# A stop where the input is 3, and one where it is odd.
-halt_twice
-| circuit Halt :
-| module Halt : | input clock : Clock | input x : UInt<2> | output y : UInt<2>
-| y <= x | stop(clock, eq(x, UInt<2>(3)), 1) | stop(clock, bits(x, 0, 0), 0)
-
-# A stop in each of two instances, where the input is 1 and where it is 2, and one in the top.
-stops_below
-| circuit Top :
-| module Cell : | input clock : Clock | input i : UInt<2>
-| stop(clock, eq(i, UInt<2>(1)), 1) : done
-| module Top : | input clock : Clock | input x : UInt<2> | output y : UInt<2>
-| inst c of Cell | inst d of Cell
-| c.clock <= clock | d.clock <= clock | c.i <= x | d.i <= not(x) | y <= x | stop(clock, eq(x, UInt<2>(3)), 0) : last
-
-# A stop in an instance in an instance, where the input is 1.
-stop_deep
-| circuit Top :
-| module Core : | input clock : Clock | input i : UInt<2>
-| stop(clock, eq(i, UInt<2>(2)), 1) : done
-| module Tile : | input clock : Clock | input i : UInt<2>
-| inst core of Core
-| core.clock <= clock | core.i <= not(i)
-| module Top : | input clock : Clock | input x : UInt<2> | output y : UInt<2>
-| inst tile of Tile
-| tile.clock <= clock | tile.i <= x | y <= x
-
 # A stop in each of two instances, each with a clock of its own, where the input is 1 and where it is 2. The top has no register on either.
 stops_ticked
 | circuit Top :
@@ -411,18 +432,4 @@ stops_ticked
 | module Top : | input c1 : Clock | input c2 : Clock | input x : UInt<2> | output y : UInt<2>
 | inst c of Cell | inst d of Cell
 | c.clock <= c1 | d.clock <= c2 | c.i <= x | d.i <= not(x) | y <= x
-
-# A stop in an instance, and one in the top.
-stop_below
-| circuit Top :
-| module Cell : | input clock : Clock | input i : UInt<2>
-| stop(clock, eq(i, UInt<2>(1)), 1) : done
-| module Top : | input clock : Clock | input x : UInt<2> | output y : UInt<2>
-| inst c of Cell
-| c.clock <= clock | c.i <= x | y <= x | stop(clock, eq(x, UInt<2>(3)), 0) : last
-
-# Fourteen steps of the memory that is listed: both readers have their data.
-read
-| fire a | fire v | latch a | latch v | fire m.r.addr | fire m.r.en | fire m.s.addr | fire m.s.en | latch m.r.addr | latch m.r.en | latch m.s.addr
-| latch m.s.en | fire m.r.data | fire m.s.data
 "#;

@@ -1,7 +1,7 @@
 //! `save` and `resume`: the snapshot of a run, the rows from a snapshot on. Expected texts of the counter are worked by hand from docs/FORMATS.md,
 //! those of cuts by a model in Python that has nothing of golden.
 
-pub(crate) const ROWS: &str = r#"
+pub(crate) const SAVED: &str = r#"
 given
 # The counter: in its middle, before its first cycle and one where all values are 0, behind its last cycle, and later. A trace without rows. The
 # faults of the partition and the trace come first.
@@ -33,7 +33,9 @@ $ golden save k1.fir p.json k1.trace 1, in each way
 k1.fir = kinds
 k1.trace | cycle x | 0 1d | 1 00
 saves after 3 loads | golden snapshot 1 | cycle 1 | reg s 1d | reg w ffffffffffffffffffffffffffffffff
+"#;
 
+pub(crate) const SAVED_STOPS: &str = r#"
 given
 # Runs that a stop ends: a state after the stop is none of theirs. A stop in the middle, in the first cycle, and in the last, which has its row.
 # Behind a pipe, and with a slow clock.
@@ -88,7 +90,9 @@ k1.fir = counted
 p.json: {"clocks":{"clock":[1,2]}}
 k1.trace | cycle reset | 0 1 | 1 0 | 2 0 | 3 0 | 4 0 | 5 0
 status 10 after 3 loads | golden: snapshot: S2 4 3
+"#;
 
+pub(crate) const RESUMED: &str = r#"
 given
 # From each cycle, from the last one on, and later. From states to which no run comes. A trace without rows. A stop counts from the snapshot on,
 # also in its first cycle.
@@ -126,7 +130,9 @@ k1.fir = kinds
 k1.trace | cycle x | 0 1d | 1 00
 k1.snap | golden snapshot 1 | cycle 1 | reg s 1d | reg w ffffffffffffffffffffffffffffffff
 prints after 4 loads | cycle y | 1 1d
+"#;
 
+pub(crate) const MOVED: &str = r#"
 given
 # Saved under one partition, and resumed under another with the same pipes and clocks: a memory that is listed and one that is not, each way; pipes
 # between two units in either order, and out of one.
@@ -169,7 +175,9 @@ p.json: {"units":["a","b"],"pipe":["b.n","q"]}
 k1.trace | cycle x | 0 11 | 1 83 | 2 05 | 3 00
 k1.snap | golden snapshot 1 | cycle 3 | pipe b.n 0a | pipe q 03
 prints after 4 loads | cycle q | 3 03
+"#;
 
+pub(crate) const MOVED_CLOCKS: &str = r#"
 given
 # The same with clocks: shared units with memories, listed and not; a memory of two clocks; a pipe; units of one module; the handshake with a pipe.
 # The cycle of a snapshot counts for its edges. A run may also go on with other clocks.

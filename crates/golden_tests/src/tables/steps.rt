@@ -1,6 +1,6 @@
 //! Steps that `replay` does.
 
-pub(crate) const ROWS: &str = r#"
+pub(crate) const COUNTER_STEPS: &str = r#"
 given
 # The counter: its output goes ahead of its input; and no steps.
 $ golden replay k1.fir p.json k1.trace s.steps
@@ -12,7 +12,9 @@ s.steps | fire out | latch out | finish out:out | fire reset | latch reset | fin
 prints after 4 loads | reset 1/1 1 | out 2/1 00 00
 
 s.steps: "" -> prints after 4 loads | reset 0/0 | out 0/0
+"#;
 
+pub(crate) const STEPS_DONE: &str = r#"
 given
 # Two orders of the same steps, and no step. A memory that is read; that is written at its first port. Two units of one host, of which one goes
 # ahead. A memory through its first cycle, ahead of the hub; and on to its second, which reads what the later of its two writers wrote. A memory of

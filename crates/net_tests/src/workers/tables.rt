@@ -156,9 +156,14 @@ fn check_case<R: Threads + Sync + Abort>(rt: &R, alloc: Global, case: &str) -> u
     runs
 }
 
+// Checks what the runs of each case of a text leave.
+fn check_cases<R: Threads + Sync + Abort>(rt: &R, alloc: Global, text: &str) {
+    for case in text.split("\n\n") {
+        assert!(rt; check_case(rt, alloc, case) > 0, "{case}");
+    }
+}
+
 #[test]
 fn workers_leave_what_is_expected(rt: HostRuntime) {
-    for case in RUNS.split("\n\n") {
-        assert!(rt; check_case(&rt, rt.alloc(), case) > 0, "{case}");
-    }
+    check_cases(&rt, rt.alloc(), RUNS);
 }
