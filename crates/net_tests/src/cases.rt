@@ -11,7 +11,9 @@
 //! `circuit` has the name of a circuit (`memory` is one of latency 0), and `trace` the lines of a trace, each behind a bar. Each line `on` has a partition. `keeps` has the values that
 //! the last machine, a tray, keeps at the end, one for each cycle. networks.rt and workers/runs.rt say what else a case of theirs has.
 use crate::texts::Circuit::Memory;
-use crate::texts::{BACK, COUNTER, DEEP, FORK, FOUR, FOUR_PORTS, PAIR, SUMS, TOGGLE, text_of};
+use crate::texts::{
+    BACK, COUNTER, Circuit, DEEP, FORK, FOUR, FOUR_PORTS, PAIR, SUMS, TOGGLE, text_of,
+};
 use std::alloc::{AllocError, Global};
 
 // Circuits by name.
@@ -26,6 +28,9 @@ static CIRCUITS: [(&str, &str); 9] = [
     ("sums", SUMS),
     ("toggle", TOGGLE),
 ];
+
+// The memory of latency 0.
+static MEMORY: Circuit = Memory("read-latency => 0", "read-under-write => undefined");
 
 // What stands behind this word in the first line of a case that begins with it. Empty if there is no such line.
 pub(crate) fn field<'a>(case: &'a str, key: &str) -> &'a str {
@@ -55,8 +60,7 @@ pub(crate) fn is_known(case: &str, keys: &[&str]) -> bool {
 pub(crate) fn circuit_of(alloc: Global, case: &str) -> Result<String, AllocError> {
     let wanted = field(case, "circuit ");
     if wanted == "memory" {
-        let memory = Memory("read-latency => 0", "read-under-write => undefined");
-        return text_of(alloc, &memory);
+        return text_of(alloc, &MEMORY);
     }
     for (name, text) in &CIRCUITS {
         if *name == wanted {
