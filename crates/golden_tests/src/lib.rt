@@ -1,11 +1,35 @@
-//! Tests of the public call `golden_with`, with five echoes, files and sinks in memory: what `run` and `demo` print, which words are a command, and which
-//! circuits, traces and files are refused, up to the limits. Expected texts are worked by hand from docs/FORMATS.md.
+//! Tests of the public call `golden_with`, with five echoes, files and sinks in memory: which words are a command, what each command prints, and which
+//! circuits, partitions, traces, steps and snapshots are refused, up to the limits. Expected texts are worked by hand from docs/FORMATS.md where nothing else
+//! is said.
 //!
-//! A row of a table is a call and what it answers. One loop goes over all tables, since each further test function makes the proof longer. Four crates
-//! beside this one have the tests of cuts, clocks, snapshots and bridges.
+//! - `tables`: rows, as texts by what they are about. A row is a call, the files that it is lent, and how it ends; [`rows`] says how it is written.
+//!   One loop goes over all of them, since each further test function makes the proof longer.
+//! - `demos`, `large`, `windows`: calls on what a function makes: all sizes of `demo`, files at the limits, runs of more cycles than a tray keeps values.
+//! - `failures`, `outputs`: calls of which each load and each put fails in turn.
+//! - `workers`: two workers that meet.
 #![tactic(auto)]
 
-mod bridges;
-mod cuts;
 #[cfg(test)]
-mod tests;
+mod calls;
+#[cfg(test)]
+mod demos;
+#[cfg(test)]
+mod failures;
+#[cfg(test)]
+mod large;
+#[cfg(test)]
+mod outputs;
+#[cfg(test)]
+mod row;
+#[cfg(test)]
+mod rows;
+#[cfg(test)]
+mod tables;
+#[cfg(test)]
+mod texts;
+#[cfg(test)]
+mod ways;
+#[cfg(test)]
+mod windows;
+#[cfg(test)]
+mod workers;

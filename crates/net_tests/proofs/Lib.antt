@@ -1,3 +1,4 @@
 pub mod BridgesLemmas
 pub mod CircuitsLemmas
+mod PortLemmas
 pub mod WorkersLemmas

@@ -1,5 +1,3 @@
-//! Tests of gg_bridge: with ample memory its calls have an answer, which no contract says. They stand in a crate of their own, since a
-//! crate with tests is proved twice.
+//! Tests of gg_bridge: with ample memory its calls have an answer, which no contract says.
 
-#[cfg(test)]
 mod memory;

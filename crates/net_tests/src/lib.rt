@@ -1,21 +1,35 @@
-//! Tests of networks, from their cut to their end: what no contract says, namely that each public call succeeds with ample memory, and what circuits
-//! do that were worked out by hand. Circuits, partitions and traces are texts. net_tests has the tests of what stands below a network,
-//! golden_tests those of the program.
+//! Tests of networks, from their cut to their end, and of what stands below and about them: what no contract says, namely that each public call
+//! succeeds with ample memory, and what circuits do that were worked out by hand. Circuits, partitions and traces are texts.
 //!
-//! A row of a table is a circuit and what is expected of it. One loop goes over all tables of a kind, since each further test function
+//! - `networks`, with `direct`, `pipes` and `sharing`: networks that begin at cycle 0;
+//! - `circuits`: simulators, parts and needs, units, clocks, trays, logs of a replay, and networks that begin at a later cycle;
+//! - `bridges`, `links`, `workers`: gg_bridge, the links between threads, and gg_workers;
+//! - `cases`, `texts`, `reading`, `built`, `meeting`: what they share.
+//!
+//! A row of a table is a circuit and what is expected of it. Those of `networks` and `workers` are texts, since a table of many slices makes the proof of its
+//! test long. One loop goes over all tables of a kind, since each further test function
 //! makes the proof longer.
 //!
 //! A value of a design, a piece, a plan or a network makes a proof long: it is dropped once for each way out of the function that owns it.
 //! So a function that owns one has a single way out, and all others take references.
 #![tactic(auto)]
 
+#[cfg(test)]
 mod bridges;
+#[cfg(test)]
+mod built;
+#[cfg(test)]
+mod cases;
+#[cfg(test)]
 mod circuits;
 #[cfg(test)]
 mod direct;
+#[cfg(test)]
 mod links;
 #[cfg(test)]
 mod measures;
+#[cfg(test)]
+mod meeting;
 #[cfg(test)]
 mod networks;
 #[cfg(test)]
@@ -25,9 +39,14 @@ mod orders;
 #[cfg(test)]
 mod pipes;
 #[cfg(test)]
+mod reading;
+#[cfg(test)]
 mod refusals;
 #[cfg(test)]
 mod sharing;
 #[cfg(test)]
 mod tables;
+#[cfg(test)]
+mod texts;
+#[cfg(test)]
 mod workers;

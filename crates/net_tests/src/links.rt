@@ -2,9 +2,6 @@
 //! values between two threads that run side by side. Each is one function over [`Link`](gg_link::Link), called for the
 //! ring and for the queue.
 
-#[cfg(test)]
 mod calls;
-#[cfg(test)]
 mod held;
-#[cfg(test)]
 mod threads;

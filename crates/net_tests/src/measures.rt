@@ -1,10 +1,11 @@
 //! gg_measure: what is left to do in a network, and doing it in two orders.
+use crate::built::{is_at_most, keeps};
+use crate::cases::field;
 use crate::networks::Case;
 use gg_bridge::Echo;
 use gg_build::Node;
 use gg_measure::{Order, left, possible, run_by, run_to, run_to_end};
 use gg_net::{Net, Streams};
-use net_helpers::{is_at_most, keeps};
 
 // Does the steps that `possible` answers, one after another. Returns how many were done, at most this many.
 fn follow<Z: Streams>(net: &mut Net<Node<'_, Echo>, Z>, most: u64) -> u64 {
@@ -35,7 +36,7 @@ fn run_by_order<Z: Streams>(net: &mut Net<Node<'_, Echo>, Z>) -> bool {
 
 // Runs a network that is before its first cycle to cycle 1, and then by an order to its end. Returns whether what was left
 // at cycle 1 is what the other cycles take.
-fn run_in_two<Z: Streams>(net: &mut Net<Node<'_, Echo>, Z>, case: &Case) -> bool {
+fn run_in_two<Z: Streams>(net: &mut Net<Node<'_, Echo>, Z>, case: &Case<'_>) -> bool {
     let begins = net.end() >= 1 && is_at_most(net, 1);
     if begins {
         run_to(net, 1);
@@ -98,7 +99,7 @@ fn is_tray_alike<Z: Streams>(
 fn are_alike<Z: Streams>(
     one: &Net<Node<'_, Echo>, Z>,
     other: &Net<Node<'_, Echo>, Z>,
-    case: &Case,
+    case: &Case<'_>,
 ) -> bool {
     for machine in 0..case.machines {
         if !is_machine_alike(one, other, machine) || !is_tray_alike(one, other, machine) {
@@ -117,7 +118,7 @@ fn are_alike<Z: Streams>(
 pub(crate) fn run_alike<Z: Streams>(
     one: &mut Net<Node<'_, Echo>, Z>,
     other: &mut Net<Node<'_, Echo>, Z>,
-    case: &Case,
+    case: &Case<'_>,
 ) -> bool {
     run_to_end(one);
     run_to_end(other);
@@ -129,7 +130,7 @@ pub(crate) fn run_alike<Z: Streams>(
 pub(crate) fn end_alike<Z: Streams>(
     one: &mut Net<Node<'_, Echo>, Z>,
     other: &mut Net<Node<'_, Echo>, Z>,
-    case: &Case,
+    case: &Case<'_>,
 ) -> bool {
     left(one) == case.left
         && follow(one, case.left) == case.left
@@ -137,6 +138,6 @@ pub(crate) fn end_alike<Z: Streams>(
         && is_done(one)
         && is_done(other)
         && are_alike(one, other, case)
-        && keeps(one, case.kept)
-        && keeps(other, case.kept)
+        && keeps(one, field(case.text, "keeps "))
+        && keeps(other, field(case.text, "keeps "))
 }

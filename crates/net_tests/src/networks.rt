@@ -1,4 +1,24 @@
 //! gg_cut, gg_build, gg_net and gg_memunit: networks are built, and run to their end.
+//!
+//! What a case has, beside what cases.rt says:
+//!
+//! ```text
+//! has 5 machines 8 channels 2 cycles 42 steps
+//! hosts 0 1 2 3 4
+//! steps 0F 0L 1F 1L
+//! serves 4 2 8
+//! refuses 8F: Stranger
+//! refuses 0F behind 0F 3E: Full { channel: 0, len: 1 }
+//! calls 3F0 3E0 0L0
+//! ```
+//!
+//! - `hosts`: each machine's host;
+//! - `steps`: the steps of a cycle: the number of a channel with `F` for a token that is given on it and with `L` for one that is taken, that of a port of
+//!   machine 1 with `S` for an access, and that of a machine with `E` for the end of its cycle;
+//! - `serves`: of machine 1 the numbers of its memory's ports, of those that are served in a cycle, and of all times that one was served;
+//! - `refuses`: a step that is refused, maybe behind others, and why;
+//! - `calls`: the first steps of a run to the end, as `is_in_order` reads them: round by round, in each the machines by number, and of each its ins, its outs, its
+//!   ports and the end of its cycle, as far as each may be done. The order isn't told if there is no such line.
 ghost use Rattle.std.specs.Prelude.{◌≡◌, ◌<◌, [], length};
 ghost use Rattle.gg_build.specs.inside.Build.{IsToRun, NeedsNone};
 ghost use Rattle.gg_cut_plan.specs.Fault.{IsSmall};
@@ -7,8 +27,11 @@ ghost use Rattle.gg_cut_plan.specs.Held.{AreHeldOnce};
 ghost use Rattle.gg_cut_reference.specs.whole.Whole.{HasFreeFronts};
 ghost use Rattle.gg_flat.specs.Run.{IsColumns};
 
+use crate::built::build_alone;
+use crate::cases::{circuit_of, field, is_known, trace_of};
 use crate::measures::end_alike;
 use crate::orders::is_in_order;
+use crate::reading::{design_of, inputs_of, request_of};
 use crate::refusals::are_refused;
 use gg_bridge::Echo;
 use gg_build::Node;
@@ -18,184 +41,109 @@ use gg_net::{Event, Net, StepRefusal, Streams};
 use gg_order::Design;
 use gg_partfile::Request;
 use gg_trace::Trace;
-use net_helpers::Circuit::{Memory, Whole};
-use net_helpers::{
-    COUNTER, COUNTER_TRACE, Circuit, FOUR_PORTS, FOUR_PORTS_TRACE, PAIR, PAIR_TRACE, THREE_CYCLES,
-    build_alone, design_of, inputs_of, request_of, text_of,
-};
 use std::alloc::Global;
 use std::marker::Brand;
 use std::process::Abort;
 
+// The words with which the lines of a case begin.
+static KEYS: [&str; 10] = [
+    "circuit", "trace", "on", "has", "hosts", "keeps", "steps", "serves", "refuses", "calls",
+];
+
 // What is expected of a network.
-pub(crate) struct Case {
+#[derive(Clone, Copy)]
+pub(crate) struct Case<'a> {
+    // all that is said
+    pub(crate) text: &'a str,
     // the numbers of machines, channels and cycles
     pub(crate) machines: u32,
     pub(crate) channels: u32,
     pub(crate) end: u64,
     // the number of all steps
     pub(crate) left: u64,
-    // steps, a step that is refused behind them, and why
-    pub(crate) refusals: &'static [(&'static str, Event, StepRefusal)],
-    // The steps of a cycle: the number of a channel with `F` for a token that is given on it and with `L` for one that is taken, that of a
-    // port of machine 1 with `S` for an access, and that of a machine with `E` for the end of its cycle.
-    pub(crate) steps: &'static str,
-    // of machine 1: the numbers of its memory's ports, of those that are served in a cycle, and of all times that one was served
-    pub(crate) served: (u32, u32, u64),
-    // what the tray of the last output keeps
-    pub(crate) kept: &'static [u128],
-    // each machine's host
-    pub(crate) hosts: &'static [u32],
-    // the first steps of a run to the end, as `is_in_order` reads them: round by round, in each the machines by number, and of each its ins, its
-    // outs, its ports and the end of its cycle, as far as each may be done; none if the order isn't told
-    pub(crate) calls: &'static str,
 }
 
-// A circuit, partitions of it, a trace, and what is expected for each of these partitions.
-pub(crate) type Row = (Circuit, &'static [&'static str], &'static str, Case);
+// The digits before this word.
+fn digits_before<'a>(text: &'a str, word: &str) -> Option<&'a str> {
+    let (before, _) = text.split_once(word)?;
+    match before.rsplit_once(' ') {
+        Some((_, digits)) => Some(digits),
+        None => Some(before),
+    }
+}
 
-// The steps of the first cycle up to the data that the two readers of the memory of four ports give.
-const READ: &str = "0F 1F 0L 1L 2F 3F 5F 6F 2L 3L 5L 6L 4F 7F";
+// The case of a paragraph. `None`: it isn't one.
+fn case_of(text: &str) -> Option<Case<'_>> {
+    if !is_known(text, &KEYS) {
+        return None;
+    }
+    let has = field(text, "has ");
+    Some(Case {
+        text,
+        machines: digits_before(has, " machines")?.parse::<u32>().ok()?,
+        channels: digits_before(has, " channels")?.parse::<u32>().ok()?,
+        end: digits_before(has, " cycles")?.parse::<u64>().ok()?,
+        left: digits_before(has, " steps")?.parse::<u64>().ok()?,
+    })
+}
 
 // Networks without direct channels, pipes or hosts that are shared.
-pub(crate) static NETWORKS: [Row; 4] = [
-    // the counter: its output goes ahead of its input
-    (
-        Whole(COUNTER),
-        &["{}"],
-        COUNTER_TRACE,
-        Case {
-            machines: 3,
-            channels: 2,
-            end: 4,
-            left: 28,
-            refusals: &[(
-                "",
-                Event::Latch { channel: 0 },
-                StepRefusal::NoToken { channel: 0 },
-            )],
-            steps: "1F 1L 2E 0F 0L 0E 1E",
-            served: (0, 0, 0),
-            kept: &[0, 0, 1, 2],
-            hosts: &[0, 1, 2],
-            calls: "0F0 1F0 1E0 2L0 2E0 0L0 0E0 1F0 1E0 0L0 0F0 0E0 1F0 1E0 2L0 2E0 0L0 0F0 0E0 1F0 1E0 2L0 2E0 0L0 0F0 0E0 2L0 2E0",
-        },
-    ),
-    // a memory of latency 0 that is a machine of its own: its data waits for its address
-    (
-        Memory("read-latency => 0", "read-under-write => undefined"),
-        &["{\"memories\":[\"m\"]}"],
-        THREE_CYCLES,
-        Case {
-            machines: 3,
-            channels: 8,
-            end: 3,
-            left: 60,
-            refusals: &[(
-                "",
-                Event::Fire { channel: 2 },
-                StepRefusal::NeedsInput { channel: 0 },
-            )],
-            steps: "0F 0L 1F 1L 2F 2L 3F 3L 4F 4L 5F 5L 6F 6L 7F 7L 1S 0E 1E 2E",
-            served: (2, 1, 3),
-            kept: &[0, 7, 7],
-            hosts: &[0, 1, 2],
-            calls: "",
-        },
-    ),
-    // two units that feed each other in one cycle
-    (
-        Whole(PAIR),
-        &["{\"units\":[\"a\",\"b\"]}"],
-        PAIR_TRACE,
-        Case {
-            machines: 5,
-            channels: 8,
-            end: 2,
-            left: 42,
-            refusals: &[
-                ("", Event::Fire { channel: 8 }, StepRefusal::Stranger),
-                (
-                    "",
-                    Event::Fire { channel: 6 },
-                    StepRefusal::NeedsInput { channel: 5 },
-                ),
-                (
-                    "",
-                    Event::Latch { channel: 0 },
-                    StepRefusal::NoToken { channel: 0 },
-                ),
-                ("0F", Event::Fire { channel: 0 }, StepRefusal::Fired),
-                ("0F 0L", Event::Latch { channel: 0 }, StepRefusal::Latched),
-                (
-                    "0F 3E",
-                    Event::Fire { channel: 0 },
-                    StepRefusal::Full { channel: 0, len: 1 },
-                ),
-                (
-                    "",
-                    Event::Finish { machine: 0 },
-                    StepRefusal::Unfired { channel: 1 },
-                ),
-                (
-                    "0F 3E 0L 0F 3E",
-                    Event::Fire { channel: 0 },
-                    StepRefusal::Ended,
-                ),
-            ],
-            steps: "0F 0L 1F 1L 3F 3L 5F 5L 6F 6L 2F 2L 4F 4L 7F 7L 0E 1E 2E 3E 4E",
-            served: (0, 0, 0),
-            kept: &[0x11, 0x83],
-            hosts: &[0, 1, 2, 3, 4],
-            calls: "3F0 3E0 0L0 0F0 1L0 1F0 3F0 3E0 0L1 0F2 2L0 2F0 2E0 0L3 0F1 1L1 1F1 1E0 0L2 0F3 0E0 4L0 4E0 0L0 0F0 1L0 1F0 0L1 0F2 2L0 2F0 2E0 0L3 0F1 1L1 1F1 1E0 0L2 0F3 0E0 4L0 4E0",
-        },
-    ),
-    // a memory whose two writers are served one after the other
-    (
-        Whole(FOUR_PORTS),
-        &["{\"memories\":[\"m\"]}"],
-        FOUR_PORTS_TRACE,
-        Case {
-            machines: 6,
-            channels: 18,
-            end: 4,
-            left: 176,
-            refusals: &[
-                (
-                    "",
-                    Event::Fire { channel: 4 },
-                    StepRefusal::NeedsInput { channel: 2 },
-                ),
-                (
-                    READ,
-                    Event::Finish { machine: 1 },
-                    StepRefusal::Unserved { port: 2 },
-                ),
-                (
-                    READ,
-                    Event::Serve {
-                        machine: 1,
-                        port: 3,
-                    },
-                    StepRefusal::Order { due: 2 },
-                ),
-                (
-                    READ,
-                    Event::Serve {
-                        machine: 1,
-                        port: 2,
-                    },
-                    StepRefusal::NeedsInput { channel: 8 },
-                ),
-            ],
-            steps: "0F 0L 1F 1L 2F 2L 3F 3L 4F 4L 5F 5L 6F 6L 7F 7L 8F 8L 9F 9L 10F 10L 11F 11L 12F 12L 13F 13L 14F 14L 15F 15L 16F 16L 17F 17L 2S 3S 0E 1E 2E 3E 4E 5E",
-            served: (4, 2, 8),
-            kept: &[0, 0xf0, 0, 0],
-            hosts: &[0, 1, 2, 3, 4, 5],
-            calls: "0F1 0F5 0F7 0F9 0F11 1L1 1L5 1L7 1L9 1L11 2F0 2E0 3F0 3E0 0L0 0L1 0F0 0F2 0F3 0F4 0F6 0F8 0F10 1L0 1L2 1L3 1L4 1L6 1L8 1L10 1F0 1F1 1S2 1S3 1E0 2F0 2E0 3F0 3E0 0L2 0L3 0F12 0F13 0E0 4L0 4E0 5L0 5E0",
-        },
-    ),
-];
+pub(crate) const NETWORKS: &str = r#"
+# the counter: its output goes ahead of its input
+circuit counter
+trace | cycle reset | 0 1 | 1 0 | 2 0 | 3 0
+on {}
+has 3 machines 2 channels 4 cycles 28 steps
+hosts 0 1 2
+keeps 0 0 1 2
+steps 1F 1L 2E 0F 0L 0E 1E
+refuses 0L: NoToken { channel: 0 }
+calls 0F0 1F0 1E0 2L0 2E0 0L0 0E0 1F0 1E0 0L0 0F0 0E0 1F0 1E0 2L0 2E0 0L0 0F0 0E0 1F0 1E0 2L0 2E0 0L0 0F0 0E0 2L0 2E0
+
+# a memory of latency 0 that is a machine of its own: its data waits for its address
+circuit memory
+trace | cycle | 0 | 1 | 2
+on {"memories":["m"]}
+has 3 machines 8 channels 3 cycles 60 steps
+hosts 0 1 2
+keeps 0 7 7
+steps 0F 0L 1F 1L 2F 2L 3F 3L 4F 4L 5F 5L 6F 6L 7F 7L 1S 0E 1E 2E
+serves 2 1 3
+refuses 2F: NeedsInput { channel: 0 }
+
+# two units that feed each other in one cycle
+circuit pair
+trace | cycle x | 0 0f | 1 81
+on {"units":["a","b"]}
+has 5 machines 8 channels 2 cycles 42 steps
+hosts 0 1 2 3 4
+keeps 11 83
+steps 0F 0L 1F 1L 3F 3L 5F 5L 6F 6L 2F 2L 4F 4L 7F 7L 0E 1E 2E 3E 4E
+refuses 8F: Stranger
+refuses 6F: NeedsInput { channel: 5 }
+refuses 0L: NoToken { channel: 0 }
+refuses 0F behind 0F: Fired
+refuses 0L behind 0F 0L: Latched
+refuses 0F behind 0F 3E: Full { channel: 0, len: 1 }
+refuses 0E: Unfired { channel: 1 }
+refuses 0F behind 0F 3E 0L 0F 3E: Ended
+calls 3F0 3E0 0L0 0F0 1L0 1F0 3F0 3E0 0L1 0F2 2L0 2F0 2E0 0L3 0F1 1L1 1F1 1E0 0L2 0F3 0E0 4L0 4E0 0L0 0F0 1L0 1F0 0L1 0F2 2L0 2F0 2E0 0L3 0F1 1L1 1F1 1E0 0L2 0F3 0E0 4L0 4E0
+
+# a memory whose two writers are served one after the other
+circuit four_ports
+trace | cycle a v | 0 1 0f | 1 1 21 | 2 3 55 | 3 1 00
+on {"memories":["m"]}
+has 6 machines 18 channels 4 cycles 176 steps
+hosts 0 1 2 3 4 5
+keeps 0 f0 0 0
+steps 0F 0L 1F 1L 2F 2L 3F 3L 4F 4L 5F 5L 6F 6L 7F 7L 8F 8L 9F 9L 10F 10L 11F 11L 12F 12L 13F 13L 14F 14L 15F 15L 16F 16L 17F 17L 2S 3S 0E 1E 2E 3E 4E 5E
+serves 4 2 8
+refuses 4F: NeedsInput { channel: 2 }
+refuses 1E behind 0F 1F 0L 1L 2F 3F 5F 6F 2L 3L 5L 6L 4F 7F: Unserved { port: 2 }
+refuses 3S behind 0F 1F 0L 1L 2F 3F 5F 6F 2L 3L 5L 6L 4F 7F: Order { due: 2 }
+refuses 2S behind 0F 1F 0L 1L 2F 3F 5F 6F 2L 3L 5L 6L 4F 7F: NeedsInput { channel: 8 }
+calls 0F1 0F5 0F7 0F9 0F11 1L1 1L5 1L7 1L9 1L11 2F0 2E0 3F0 3E0 0L0 0L1 0F0 0F2 0F3 0F4 0F6 0F8 0F10 1L0 1L2 1L3 1L4 1L6 1L8 1L10 1F0 1F1 1S2 1S3 1E0 2F0 2E0 3F0 3E0 0L2 0L3 0F12 0F13 0E0 4L0 4E0 5L0 5E0
+"#;
 
 // The step of a letter and a number.
 fn step_of(letter: u8, number: u32) -> Event {
@@ -210,17 +158,26 @@ fn step_of(letter: u8, number: u32) -> Event {
     }
 }
 
-// Whether these steps can be done.
-pub(crate) fn goes_once<Z: Streams>(net: &mut Net<Node<'_, Echo>, Z>, steps: &str) -> bool {
+// The step of a word.
+pub(crate) fn event_of(word: &str) -> Event {
     let mut number: u32 = 0;
-    for byte in steps.as_bytes() {
+    let mut letter = b' ';
+    for byte in word.as_bytes() {
         if byte.is_ascii_digit() {
             number = number
                 .saturating_mul(10)
                 .saturating_add((*byte & 15) as u32);
-        } else if *byte == b' ' {
-            number = 0;
-        } else if net.step(step_of(*byte, number)).is_err() {
+        } else {
+            letter = *byte;
+        }
+    }
+    step_of(letter, number)
+}
+
+// Whether these steps can be done.
+pub(crate) fn goes_once<Z: Streams>(net: &mut Net<Node<'_, Echo>, Z>, steps: &str) -> bool {
+    for word in steps.split_whitespace() {
+        if net.step(event_of(word)).is_err() {
             return false;
         }
     }
@@ -243,22 +200,24 @@ fn joined<'a, Z: Streams>(net: Net<Node<'a, Echo>, Z>) -> Net<Node<'a, Echo>, Z>
 }
 
 // Whether these are the hosts of the machines.
-fn are_hosts<Z: Streams>(net: &Net<Node<'_, Echo>, Z>, hosts: &[u32]) -> bool {
+fn are_hosts<Z: Streams>(net: &Net<Node<'_, Echo>, Z>, hosts: &str) -> bool {
     let stations = net.shape().stations.as_slice();
-    for (machine, host) in hosts.iter().enumerate() {
-        if machine >= stations.len() || stations[machine].host != *host {
+    let mut machine: usize = 0;
+    for host in hosts.split(' ') {
+        if machine >= stations.len() || host.parse::<u32>().ok() != Some(stations[machine].host) {
             return false;
         }
+        machine = machine.saturating_add(1);
     }
-    stations.len() == hosts.len()
+    stations.len() == machine
 }
 
 // Whether a network is as expected before its first cycle.
-fn opens<Z: Streams>(net: &Net<Node<'_, Echo>, Z>, case: &Case) -> bool {
+fn opens<Z: Streams>(net: &Net<Node<'_, Echo>, Z>, case: &Case<'_>) -> bool {
     net.machines() == case.machines as usize
         && net.channels() == case.channels as usize
         && net.shape().stations.len() == case.machines as usize
-        && are_hosts(net, case.hosts)
+        && are_hosts(net, field(case.text, "hosts "))
         && net.end() == case.end
 }
 
@@ -281,9 +240,26 @@ fn is_spent<Z: Streams>(net: &Net<Node<'_, Echo>, Z>, channel: u32) -> bool
         && net.newest(channel).is_some() == first.is_some()
 }
 
+// Three numbers of a line: of machine 1 those of its memory's ports, of those that are served in a cycle, and of all times that one was served. All are
+// 0 if there is no line.
+fn served_of(line: &str) -> Option<(u32, u32, u64)> {
+    if line.is_empty() {
+        return Some((0, 0, 0));
+    }
+    let (ports, rest) = line.split_once(' ')?;
+    let (dues, times) = rest.split_once(' ')?;
+    Some((
+        ports.parse::<u32>().ok()?,
+        dues.parse::<u32>().ok()?,
+        times.parse::<u64>().ok()?,
+    ))
+}
+
 // Whether machine 1 serves as expected.
-fn serves<Z: Streams>(net: &Net<Node<'_, Echo>, Z>, case: &Case) -> bool {
-    let (ports, dues, times) = case.served;
+fn serves<Z: Streams>(net: &Net<Node<'_, Echo>, Z>, case: &Case<'_>) -> bool {
+    let Some((ports, dues, times)) = served_of(field(case.text, "serves ")) else {
+        return false;
+    };
     1 < net.machines()
         && net.port_count(1) == ports
         && net.dues(1) == dues
@@ -291,7 +267,7 @@ fn serves<Z: Streams>(net: &Net<Node<'_, Echo>, Z>, case: &Case) -> bool {
 }
 
 // Whether a network is as expected behind its last cycle.
-fn closes<Z: Streams>(net: &Net<Node<'_, Echo>, Z>, case: &Case) -> bool {
+fn closes<Z: Streams>(net: &Net<Node<'_, Echo>, Z>, case: &Case<'_>) -> bool {
     for machine in 0..case.machines {
         if machine as usize >= net.machines() || !has_ended(net, machine) {
             return false;
@@ -306,14 +282,15 @@ fn closes<Z: Streams>(net: &Net<Node<'_, Echo>, Z>, case: &Case) -> bool {
 }
 
 // Whether a network runs as expected, where it is taken apart behind its first cycle.
-fn runs<Z: Streams>(mut net: Net<Node<'_, Echo>, Z>, case: &Case) -> bool {
-    let begins = opens(&net, case) && goes(&mut net, case.steps, 1);
+fn runs<Z: Streams>(mut net: Net<Node<'_, Echo>, Z>, case: &Case<'_>) -> bool {
+    let steps = field(case.text, "steps ");
+    let begins = opens(&net, case) && goes(&mut net, steps, 1);
     let mut net = joined(net);
-    begins && goes(&mut net, case.steps, case.end.saturating_sub(1)) && closes(&net, case)
+    begins && goes(&mut net, steps, case.end.saturating_sub(1)) && closes(&net, case)
 }
 
 // Whether the network of a plan runs as expected by the steps of the case.
-fn is_built_once<Z: Streams>(alloc: Global, plan: &Plan, inputs: &Trace, case: &Case) -> bool
+fn is_built_once<Z: Streams>(alloc: Global, plan: &Plan, inputs: &Trace, case: &Case<'_>) -> bool
     requires run { IsToRun plan.now inputs.now.columns inputs.now.rows Z.flow }
     requires alone { NeedsNone plan.now }
 {
@@ -324,7 +301,7 @@ fn is_built_once<Z: Streams>(alloc: Global, plan: &Plan, inputs: &Trace, case: &
 }
 
 // Whether two networks of a plan end alike, in two orders of steps.
-fn is_built_twice<Z: Streams>(alloc: Global, plan: &Plan, inputs: &Trace, case: &Case) -> bool
+fn is_built_twice<Z: Streams>(alloc: Global, plan: &Plan, inputs: &Trace, case: &Case<'_>) -> bool
     requires run { IsToRun plan.now inputs.now.columns inputs.now.rows Z.flow }
     requires alone { NeedsNone plan.now }
 {
@@ -346,7 +323,7 @@ fn is_built<Z: Streams>(
     _models: &Models,
     plan: &Plan,
     inputs: &Trace,
-    case: &Case,
+    case: &Case<'_>,
 ) -> bool
     requires run { IsToRun plan.now inputs.now.columns inputs.now.rows Z.flow }
     requires alone { NeedsNone plan.now }
@@ -354,7 +331,7 @@ fn is_built<Z: Streams>(
     is_built_once::<Z>(alloc, plan, inputs, case)
         && is_built_twice::<Z>(alloc, plan, inputs, case)
         && are_refused::<Z>(alloc, plan, inputs, case)
-        && is_in_order::<Z>(alloc, plan, inputs, case.calls)
+        && is_in_order::<Z>(alloc, plan, inputs, field(case.text, "calls "))
 }
 
 // Whether the network of a design and a request without bridges runs as expected, for channels of capacity 1.
@@ -363,7 +340,7 @@ fn is_planned(
     design: &Design,
     request: &Request,
     inputs: &Trace,
-    case: &Case,
+    case: &Case<'_>,
 ) -> bool
     requires small { IsSmall request.now }
     requires keeps { KeepsToTree design.now.circuit design.now.tree }
@@ -387,7 +364,13 @@ fn is_planned(
 }
 
 // The same, where the request has to have no bridges.
-fn is_cut(alloc: Global, design: &Design, request: &Request, inputs: &Trace, case: &Case) -> bool
+fn is_cut(
+    alloc: Global,
+    design: &Design,
+    request: &Request,
+    inputs: &Trace,
+    case: &Case<'_>,
+) -> bool
     requires small { IsSmall request.now }
     requires keeps { KeepsToTree design.now.circuit design.now.tree }
     requires held { AreHeldOnce design.now.circuit }
@@ -401,7 +384,7 @@ fn is_cut(alloc: Global, design: &Design, request: &Request, inputs: &Trace, cas
 }
 
 // Whether the network of a design and a partition runs as expected on a trace.
-fn is_fed(alloc: Global, design: &Design, partition: &str, trace: &str, case: &Case) -> bool
+fn is_fed(alloc: Global, design: &Design, partition: &str, trace: &str, case: &Case<'_>) -> bool
     requires keeps { KeepsToTree design.now.circuit design.now.tree }
     requires held { AreHeldOnce design.now.circuit }
     requires free { HasFreeFronts design.now.circuit }
@@ -416,27 +399,44 @@ fn is_fed(alloc: Global, design: &Design, partition: &str, trace: &str, case: &C
 }
 
 // Whether the network of a circuit and a partition runs as expected on a trace.
-fn is_network(alloc: Global, circuit: &str, partition: &str, trace: &str, case: &Case) -> bool {
+fn is_network(alloc: Global, circuit: &str, partition: &str, trace: &str, case: &Case<'_>) -> bool {
     match design_of(alloc, circuit) {
         Some(design) => is_fed(alloc, &design, partition, trace, case),
         None => false,
     }
 }
 
-// The same for a circuit of a table.
-fn is_right(alloc: Global, circuit: &Circuit, partition: &str, trace: &str, case: &Case) -> bool {
-    match text_of(alloc, circuit) {
-        Ok(text) => is_network(alloc, text.as_str(), partition, trace, case),
+// The same for the circuit and the trace of a case.
+fn is_right(alloc: Global, partition: &str, case: &Case<'_>) -> bool {
+    match circuit_of(alloc, case.text) {
+        Ok(circuit) => match trace_of(alloc, case.text) {
+            Ok(trace) => is_network(alloc, circuit.as_str(), partition, trace.as_str(), case),
+            Err(_) => false,
+        },
         Err(_) => false,
     }
 }
 
-// Checks that each network runs as expected. A failure names the table, the row, counted from 0, and the partition.
-pub(crate) fn check_networks(rt: &impl Abort, alloc: Global, table: &str, rows: &[Row]) {
-    for (row, (circuit, partitions, trace, case)) in rows.iter().enumerate() {
-        for partition in *partitions {
-            let holds = is_right(alloc, circuit, partition, trace, case);
-            assert!(rt; holds, "{table}, row {row}: {partition}");
+// Checks that the network of each partition of a paragraph runs as expected. Returns how many there are.
+fn check_case(rt: &impl Abort, alloc: Global, table: &str, paragraph: &str) -> u64 {
+    let case = case_of(paragraph).expect(rt, "a case");
+    let mut networks: u64 = 0;
+    for line in paragraph.lines() {
+        if let Some(partition) = line.strip_prefix("on ") {
+            let holds = is_right(alloc, partition, &case);
+            assert!(rt; holds, "{table}, {partition}: {paragraph}");
+            networks = networks.saturating_add(1);
         }
+    }
+    networks
+}
+
+// Checks that each network of a text runs as expected. A failure shows its case.
+pub(crate) fn check_networks(rt: &impl Abort, alloc: Global, table: &str, text: &str) {
+    for paragraph in text.split("\n\n") {
+        assert!(rt;
+            check_case(rt, alloc, table, paragraph) > 0,
+            "{table}: {paragraph}"
+        );
     }
 }

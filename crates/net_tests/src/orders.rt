@@ -1,6 +1,7 @@
 //! gg_measure: the order in which `run_to_end` does steps, as the hosts of a network see it.
 ghost use Rattle.gg_build.specs.inside.Build.{IsToRun, NeedsNone};
 
+use crate::built::build_alone;
 use crate::notes::{Notes, Noting, noting_hosts};
 use gg_bridge::Echo;
 use gg_build::Node;
@@ -9,7 +10,6 @@ use gg_measure::run_to_end;
 use gg_net::{Net, Parts, Streams};
 use gg_node::Host;
 use gg_trace::Trace;
-use net_helpers::build_alone;
 use std::alloc::{AllocError, Global};
 
 // The network with hosts that note their calls.

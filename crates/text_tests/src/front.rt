@@ -1,5 +1,5 @@
-//! Tests of the lexer, the reader and the front end, on texts worked by hand from docs/FORMATS.md. They stand in a crate
-//! of their own, since a crate with tests is proved twice. Each is a table of texts, and a call on each of them:
+//! Tests of the lexer, the reader and the front end, on texts worked by hand from docs/FORMATS.md. Each is a table of texts,
+//! and a call on each of them:
 //!
 //! - `lines`: the tokens of a line;
 //! - `reading`: the circuit that is read of a text, or the fault of reading;
@@ -7,5 +7,11 @@
 //! - `stages`: what the calls that `front` is made of answer one after another, which shows that `gg_shape::shape` and
 //!   `gg_types::types` accept a circuit and name a fault. No other code calls these two.
 
-#[cfg(test)]
-mod tests;
+mod calls;
+mod circuits;
+mod fronts;
+mod lines;
+mod reading;
+mod sources;
+mod stages;
+mod tables;

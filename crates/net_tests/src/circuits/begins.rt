@@ -9,6 +9,8 @@ ghost use Rattle.gg_flat.specs.State.{IsState};
 ghost use Rattle.gg_part.specs.KeepsToTree.{KeepsToTree};
 ghost use Rattle.gg_cut_reference.specs.whole.Whole.{HasFreeFronts};
 
+use crate::reading::{design_of, inputs_of, request_of};
+use crate::texts::{DEEP, DEEP_TRACE};
 use gg_bridge::Echo;
 use gg_build::{Begin, Node, build_from};
 use gg_clocks::{Ratio, Timing};
@@ -19,7 +21,6 @@ use gg_net::{Net, Streams};
 use gg_order::{Design, State, scratch_of, signal_zeros};
 use gg_partfile::Request;
 use gg_trace::Trace;
-use net_helpers::{DEEP, DEEP_TRACE, design_of, inputs_of, request_of};
 use std::alloc::{AllocError, Global};
 use std::marker::Brand;
 use std::process::Abort;

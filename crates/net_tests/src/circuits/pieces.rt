@@ -3,6 +3,8 @@ ghost use Rattle.std.specs.Prelude.{◌≡◌, [], length};
 ghost use Rattle.gg_flat.specs.WellFormed.{IsWellFormed};
 ghost use Rattle.gg_flat.specs.InOrder.{IsInOrder};
 
+use crate::reading::design_of;
+use crate::texts::{PASS, TOGGLE};
 use gg_bits::{Kind, Name, Ty};
 use gg_fame1::{NoMemory, Unit};
 use gg_flat::Piece;
@@ -10,7 +12,6 @@ use gg_node::Host;
 use gg_order::{Design, State, needs_of, scratch_of, signal_zeros};
 use gg_program::Program;
 use gg_refsim::is_well_formed;
-use net_helpers::{PASS, TOGGLE, design_of};
 use std::alloc::{AllocError, Global};
 
 // Whether a piece is well formed and has the register `r` as its second signal, no input, and its first signal as its output.

@@ -3,15 +3,16 @@ ghost use Rattle.std.specs.Prelude.{◌≡◌, ◌<◌, ◌+◌, length};
 ghost use Rattle.gg_flat.specs.Run.{IsColumns};
 ghost use Rattle.gg_flat.specs.Settled.{IsInputs};
 
+use crate::reading::{design_of, inputs_of};
+use crate::texts::Circuit::{Memory, Whole};
+use crate::texts::{
+    COUNTER, COUNTER_TRACE, Circuit, DEEP, DEEP_TRACE, DUAL, HALT, SIX_CYCLES, THREE_CYCLES,
+    text_of,
+};
 use gg_clocks::Ratio;
 use gg_order::Design;
 use gg_refsim::Mono;
 use gg_trace::Trace;
-use net_helpers::Circuit::{Memory, Whole};
-use net_helpers::{
-    COUNTER, COUNTER_TRACE, Circuit, DEEP, DEEP_TRACE, DUAL, HALT, SIX_CYCLES, THREE_CYCLES,
-    design_of, inputs_of, text_of,
-};
 use std::alloc::Global;
 use std::process::Abort;
 

@@ -1,7 +1,7 @@
 //! Two workers run side by side, with queues.
-use crate::workers::runs::{Row, Table, is_expected};
+use crate::meeting::Meeting;
+use crate::workers::runs::{Row, is_expected};
 use gg_ruled::Ruled;
-use net_helpers::{Meeting, PAIR, PAIR_TRACE};
 use std::alloc::Global;
 use std::sync::Wait;
 use std::thread::Threads;
@@ -10,18 +10,16 @@ use std::thread::Threads;
 const RUN: Row = (0, 2, 2, 0, 41);
 
 // Two units that feed each other in one cycle.
-static BOTH: Table = Table {
-    circuit: PAIR,
-    partition: "{\"units\":[\"a\",\"b\"]}",
-    trace: PAIR_TRACE,
-    beside: false,
-    kept: &[0x11, 0x83],
-    rows: &[RUN],
-};
+const BOTH: &str = r#"
+circuit pair
+trace | cycle x | 0 0f | 1 81
+on {"units":["a","b"]}
+keeps 11 83
+"#;
 
 // Whether that run with queues, at this gate, leaves what is expected.
 fn meets<R: Threads + Wait + Copy + Send + Sync>(rt: R, alloc: Global, gate: &Meeting) -> bool {
-    is_expected::<R, Ruled<R>, Meeting>(&rt, rt, alloc, &BOTH, RUN, gate)
+    is_expected::<R, Ruled<R>, Meeting>(&rt, rt, alloc, BOTH, RUN, gate)
 }
 
 #[test]

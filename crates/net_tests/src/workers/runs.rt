@@ -1,4 +1,5 @@
-//! Runs of a network by workers.
+//! Runs of a network by workers. A case has, beside what cases.rt says, a line `run` for each run from the opening, with the five numbers of a row, and a
+//! line `beside` if a host without threads is beside the others.
 ghost use Rattle.std.specs.Prelude.{◌≡◌, []};
 ghost use Rattle.gg_build.specs.inside.Build.{IsToRun, NeedsNone};
 ghost use Rattle.gg_cut_plan.specs.Fault.{IsSmall};
@@ -7,6 +8,9 @@ ghost use Rattle.gg_part.specs.KeepsToTree.{KeepsToTree};
 ghost use Rattle.gg_cut_plan.specs.Held.{AreHeldOnce};
 ghost use Rattle.gg_cut_reference.specs.whole.Whole.{HasFreeFronts};
 
+use crate::built::{build_alone, is_at_most, keeps, value_of};
+use crate::cases::{circuit_of, field, trace_of};
+use crate::reading::{design_of, inputs_of, request_of};
 use crate::workers::optional_node::{OptionalNode, beside_none};
 use gg_bridge::Echo;
 use gg_build::Node;
@@ -20,7 +24,6 @@ use gg_order::Design;
 use gg_partfile::Request;
 use gg_trace::Trace;
 use gg_workers::work;
-use net_helpers::{build_alone, design_of, inputs_of, is_at_most, keeps, request_of};
 use std::alloc::Global;
 use std::marker::Brand;
 use std::thread::Threads;
@@ -29,16 +32,16 @@ use std::thread::Threads;
 // which they step its machines, and how many steps are left after it, at least and at most.
 pub(crate) type Row = (u64, u32, u64, u64, u64);
 
-// Runs of one network, each from the opening.
-pub(crate) struct Table {
-    pub(crate) circuit: &'static str,
-    pub(crate) partition: &'static str,
-    pub(crate) trace: &'static str,
-    // whether a host without threads is beside the others
-    pub(crate) beside: bool,
-    // what the last machine, a tray, keeps at the end
-    pub(crate) kept: &'static [u128],
-    pub(crate) rows: &'static [Row],
+// The five numbers of a run.
+pub(crate) fn row_of(line: &str) -> Option<Row> {
+    let mut numbers = line.split(' ');
+    Some((
+        numbers.next()?.parse::<u64>().ok()?,
+        numbers.next()?.parse::<u32>().ok()?,
+        numbers.next()?.parse::<u64>().ok()?,
+        numbers.next()?.parse::<u64>().ok()?,
+        numbers.next()?.parse::<u64>().ok()?,
+    ))
 }
 
 // Brings a network to a cycle, if that lies before it.
@@ -49,35 +52,38 @@ fn bring<Z: Streams>(net: &mut Net<Node<'_, Echo>, Z>, cycle: u64) {
 }
 
 // Whether a network is as expected after a run, and at its end.
-fn ends<Z: Streams>(net: &mut Net<Node<'_, Echo>, Z>, table: &Table, row: Row) -> bool {
+fn ends<Z: Streams>(net: &mut Net<Node<'_, Echo>, Z>, case: &str, row: Row) -> bool {
     let (_, _, _, least, most) = row;
     let rest = left(net);
     run_to_end(net);
-    least <= rest && rest <= most && left(net) == 0 && keeps(net, table.kept)
+    least <= rest && rest <= most && left(net) == 0 && keeps(net, field(case, "keeps "))
 }
 
 // Whether the last machine keeps these values, one for each cycle from 0 on.
-fn keeps_beside<Z: Streams>(net: &Net<OptionalNode<'_>, Z>, values: &[u128]) -> bool {
+fn keeps_beside<Z: Streams>(net: &Net<OptionalNode<'_>, Z>, values: &str) -> bool {
     net.within_limits();
     let machines = net.machines();
     if machines == 0 {
         return false;
     }
     let tray = net.host((machines - 1) as u32);
-    for (cycle, value) in values.iter().enumerate() {
-        if tray.value(cycle as u64) != Some(*value) {
+    let mut cycle: u64 = 0;
+    for digits in values.split(' ') {
+        let value = value_of(digits);
+        if value.is_none() || tray.value(cycle) != value {
             return false;
         }
+        cycle = cycle.saturating_add(1);
     }
-    tray.value(values.len() as u64).is_none()
+    tray.value(cycle).is_none()
 }
 
 // Whether such a network is as expected after a run, and at its end.
-fn ends_beside<Z: Streams>(net: &mut Net<OptionalNode<'_>, Z>, table: &Table, row: Row) -> bool {
+fn ends_beside<Z: Streams>(net: &mut Net<OptionalNode<'_>, Z>, case: &str, row: Row) -> bool {
     let (_, _, _, least, most) = row;
     let rest = left(net);
     run_to_end(net);
-    least <= rest && rest <= most && left(net) == 0 && keeps_beside(net, table.kept)
+    least <= rest && rest <= most && left(net) == 0 && keeps_beside(net, field(case, "keeps "))
 }
 
 // Whether a run of such a network leaves what is expected.
@@ -86,14 +92,14 @@ fn goes_beside<R: Threads + Sync, L: Link, Z: Streams, G: Gate + Sync>(
     home: L::Home,
     alloc: Global,
     net: Net<OptionalNode<'_>, Z>,
-    table: &Table,
+    case: &str,
     row: Row,
     gate: &G,
 ) -> bool {
     let (_, workers, upto, _, _) = row;
     let workers = workers.min(64);
     match work::<R, OptionalNode<'_>, L, Z, G>(rt, home, alloc, net, workers, upto, gate) {
-        Ok(mut net) => ends_beside(&mut net, table, row),
+        Ok(mut net) => ends_beside(&mut net, case, row),
         Err(_) => false,
     }
 }
@@ -104,21 +110,21 @@ fn goes<R: Threads + Sync, L: Link, Z: Streams, G: Gate + Sync>(
     home: L::Home,
     alloc: Global,
     mut net: Net<Node<'_, Echo>, Z>,
-    table: &Table,
+    case: &str,
     row: Row,
     gate: &G,
 ) -> bool {
     let (begin, workers, upto, _, _) = row;
     bring(&mut net, begin);
-    if table.beside {
+    if !field(case, "beside ").is_empty() {
         return match beside_none::<Z>(alloc, net) {
-            Ok(net) => goes_beside::<R, L, Z, G>(rt, home, alloc, net, table, row, gate),
+            Ok(net) => goes_beside::<R, L, Z, G>(rt, home, alloc, net, case, row, gate),
             Err(_) => false,
         };
     }
     let workers = workers.min(64);
     match work::<R, Node<'_, Echo>, L, Z, G>(rt, home, alloc, net, workers, upto, gate) {
-        Ok(mut net) => ends(&mut net, table, row),
+        Ok(mut net) => ends(&mut net, case, row),
         Err(_) => false,
     }
 }
@@ -134,7 +140,7 @@ fn is_run<R: Threads + Sync, L: Link, Z: Streams, G: Gate + Sync>(
     _models: &Models,
     plan: &Plan,
     inputs: &Trace,
-    table: &Table,
+    case: &str,
     row: Row,
     gate: &G,
 ) -> bool
@@ -142,7 +148,7 @@ fn is_run<R: Threads + Sync, L: Link, Z: Streams, G: Gate + Sync>(
     requires alone { NeedsNone plan.now }
 {
     match build_alone::<Z>(alloc, plan, inputs) {
-        Ok(net) => goes::<R, L, Z, G>(rt, home, alloc, net, table, row, gate),
+        Ok(net) => goes::<R, L, Z, G>(rt, home, alloc, net, case, row, gate),
         Err(_) => false,
     }
 }
@@ -155,7 +161,7 @@ fn is_planned<R: Threads + Sync, L: Link, G: Gate + Sync>(
     design: &Design,
     request: &Request,
     inputs: &Trace,
-    table: &Table,
+    case: &str,
     row: Row,
     gate: &G,
 ) -> bool
@@ -174,7 +180,7 @@ fn is_planned<R: Threads + Sync, L: Link, G: Gate + Sync>(
     match cut(alloc, design, request, 1, &models) {
         Ok(plan) => {
             is_run::<R, L, Brand, G>(
-                rt, home, alloc, design, request, &models, &plan, inputs, table, row, gate,
+                rt, home, alloc, design, request, &models, &plan, inputs, case, row, gate,
             )
         }
         Err(fault) => {
@@ -192,7 +198,7 @@ fn is_cut<R: Threads + Sync, L: Link, G: Gate + Sync>(
     design: &Design,
     request: &Request,
     inputs: &Trace,
-    table: &Table,
+    case: &str,
     row: Row,
     gate: &G,
 ) -> bool
@@ -205,16 +211,17 @@ fn is_cut<R: Threads + Sync, L: Link, G: Gate + Sync>(
     if !request.bridges.as_slice().is_empty() {
         return false;
     }
-    is_planned::<R, L, G>(rt, home, alloc, design, request, inputs, table, row, gate)
+    is_planned::<R, L, G>(rt, home, alloc, design, request, inputs, case, row, gate)
 }
 
-// Whether a run of the network of a design leaves what is expected.
+// Whether a run of the network of a design leaves what is expected on a trace.
 fn is_fed<R: Threads + Sync, L: Link, G: Gate + Sync>(
     rt: &R,
     home: L::Home,
     alloc: Global,
     design: &Design,
-    table: &Table,
+    trace: &str,
+    case: &str,
     row: Row,
     gate: &G,
 ) -> bool
@@ -222,10 +229,10 @@ fn is_fed<R: Threads + Sync, L: Link, G: Gate + Sync>(
     requires held { AreHeldOnce design.now.circuit }
     requires free { HasFreeFronts design.now.circuit }
 {
-    match request_of(alloc, table.partition) {
-        Some(request) => match inputs_of(alloc, design, table.trace) {
+    match request_of(alloc, field(case, "on ")) {
+        Some(request) => match inputs_of(alloc, design, trace) {
             Some(inputs) => {
-                is_cut::<R, L, G>(rt, home, alloc, design, &request, &inputs, table, row, gate)
+                is_cut::<R, L, G>(rt, home, alloc, design, &request, &inputs, case, row, gate)
             }
             None => false,
         },
@@ -233,17 +240,40 @@ fn is_fed<R: Threads + Sync, L: Link, G: Gate + Sync>(
     }
 }
 
-// Whether a run of the network of a table leaves what is expected. False, too, if an allocation fails.
+// The same of the network of a circuit.
+fn is_network<R: Threads + Sync, L: Link, G: Gate + Sync>(
+    rt: &R,
+    home: L::Home,
+    alloc: Global,
+    circuit: &str,
+    trace: &str,
+    case: &str,
+    row: Row,
+    gate: &G,
+) -> bool {
+    match design_of(alloc, circuit) {
+        Some(design) => is_fed::<R, L, G>(rt, home, alloc, &design, trace, case, row, gate),
+        None => false,
+    }
+}
+
+// Whether a run of the network of a case leaves what is expected. False, too, if an allocation fails.
 pub(crate) fn is_expected<R: Threads + Sync, L: Link, G: Gate + Sync>(
     rt: &R,
     home: L::Home,
     alloc: Global,
-    table: &Table,
+    case: &str,
     row: Row,
     gate: &G,
 ) -> bool {
-    match design_of(alloc, table.circuit) {
-        Some(design) => is_fed::<R, L, G>(rt, home, alloc, &design, table, row, gate),
-        None => false,
+    match circuit_of(alloc, case) {
+        Ok(circuit) => match trace_of(alloc, case) {
+            Ok(trace) => {
+                let (circuit, trace) = (circuit.as_str(), trace.as_str());
+                is_network::<R, L, G>(rt, home, alloc, circuit, trace, case, row, gate)
+            }
+            Err(_) => false,
+        },
+        Err(_) => false,
     }
 }

@@ -1,6 +1,0 @@
-//! The tests: tables of calls, by what they are about, and their check; and tests of what no table says.
-mod clocks;
-mod stops;
-mod tables;
-mod windows;
-mod workers;

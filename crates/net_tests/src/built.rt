@@ -1,0 +1,62 @@
+//! The network of a plan, and what a test looks at in it.
+ghost use Rattle.std.specs.Prelude.{◌≡◌, ℕ, ◌<◌, ◌≤◌, true, length};
+ghost use Rattle.gg_build.specs.inside.Build.{IsToRun, NeedsNone};
+ghost use Rattle.gg_net.specs.Network.{cycle_at};
+
+use gg_bridge::Echo;
+use gg_build::{Node, build};
+use gg_cut_plan::Plan;
+use gg_net::{Net, Streams};
+use gg_trace::Trace;
+use std::alloc::{AllocError, Global};
+
+// The network of a plan without bridges, before its first cycle.
+pub(crate) fn build_alone<'a, Z: Streams>(
+    alloc: Global,
+    plan: &'a Plan,
+    inputs: &Trace,
+) -> Result<Net<Node<'a, Echo>, Z>, AllocError>
+    requires run { IsToRun plan.now inputs.now.columns inputs.now.rows Z.flow }
+    requires alone { NeedsNone plan.now }
+{
+    let bridges = Vec::new(alloc);
+    let net = build::<Echo, Z>(alloc, plan, inputs, bridges)?;
+    Ok(net)
+}
+
+// Whether no machine is above a cycle.
+pub(crate) fn is_at_most<Z: Streams>(net: &Net<Node<'_, Echo>, Z>, cycle: u64) -> bool
+    ensures { result ≡ true → (m : ℕ) → m < length net.now.machines → cycle_at net.now m ≤ cycle }
+{
+    net.within_limits();
+    for machine in 0..net.machines() {
+        if net.cycle(machine as u32) > cycle {
+            return false;
+        }
+    }
+    true
+}
+
+// A value of a case. `None`: it is none.
+pub(crate) fn value_of(digits: &str) -> Option<u128> {
+    u128::from_str_radix(digits, 16).ok()
+}
+
+// Whether the last machine is a tray that keeps these values, one for each cycle from 0 on.
+pub(crate) fn keeps<Z: Streams>(net: &Net<Node<'_, Echo>, Z>, values: &str) -> bool {
+    net.within_limits();
+    let machines = net.machines();
+    if machines == 0 {
+        return false;
+    }
+    let tray = net.host((machines - 1) as u32);
+    let mut cycle: u64 = 0;
+    for digits in values.split(' ') {
+        let value = value_of(digits);
+        if value.is_none() || tray.value(cycle) != value {
+            return false;
+        }
+        cycle = cycle.saturating_add(1);
+    }
+    tray.value(cycle).is_none()
+}

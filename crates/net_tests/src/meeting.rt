@@ -1,0 +1,81 @@
+//! A gate at which two workers meet.
+use gg_io::Gate;
+use std::sync::atomic::{AtomicU64, Ordering};
+use std::thread;
+
+// The flags of one worker: whether it has begun, and whether it has seen that the other has.
+struct Flags {
+    begun: AtomicU64,
+    met: AtomicU64,
+}
+
+impl Drop for Flags {
+    fn drop(self) {
+        let Self { begun, met } = self;
+        drop(begun);
+        drop(met);
+    }
+}
+
+impl Flags {
+    // Flags that aren't set.
+    fn new() -> Flags {
+        Flags {
+            begun: AtomicU64::new(0),
+            met: AtomicU64::new(0),
+        }
+    }
+
+    // Tells that the worker has begun, and looks at most 10,000,000 times whether the other has.
+    fn meet(&self, other: &Flags) {
+        self.begun.store(1, Ordering::SeqCst);
+        for _ in 0..10_000_000 {
+            if other.begun.load(Ordering::SeqCst) == 1 {
+                self.met.store(1, Ordering::SeqCst);
+                return;
+            }
+            thread::yield_now();
+        }
+    }
+}
+
+// A gate at which each of two workers waits for the other before its first turn.
+pub(crate) struct Meeting {
+    first: Flags,
+    second: Flags,
+}
+
+impl Drop for Meeting {
+    fn drop(self) {
+        let Self { first, second } = self;
+        drop(first);
+        drop(second);
+    }
+}
+
+impl Meeting {
+    // A gate that no worker has passed.
+    pub(crate) fn new() -> Meeting {
+        Meeting {
+            first: Flags::new(),
+            second: Flags::new(),
+        }
+    }
+
+    // Whether each of the two workers has seen the other there.
+    pub(crate) fn has_met(&self) -> bool {
+        self.first.met.load(Ordering::SeqCst) == 1 && self.second.met.load(Ordering::SeqCst) == 1
+    }
+}
+
+impl Gate for Meeting {
+    fn pass(&self, worker: u32, turn: u64) {
+        if turn == 0 {
+            if worker == 0 {
+                self.first.meet(&self.second);
+            } else {
+                self.second.meet(&self.first);
+            }
+        }
+    }
+}
