@@ -102,14 +102,14 @@ pub(crate) fn check_rows<R: Threads + Sync>(
     table: &str,
     text: &str,
 ) -> Result<(), Fail> {
-    let mut given = "";
+    let mut given = String::new(alloc);
     let mut line: u64 = 0;
     let mut rows: u64 = 0;
     for paragraph in text.split("\n\n") {
         if is_given(paragraph) {
-            given = paragraph;
+            given = String::from_str(alloc, paragraph)?;
         } else {
-            let found = check_paragraph(rt, alloc, table, line, given, paragraph)?;
+            let found = check_paragraph(rt, alloc, table, line, given.as_str(), paragraph)?;
             rows = rows.saturating_add(found);
         }
         line = line

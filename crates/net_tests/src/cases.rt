@@ -42,6 +42,16 @@ pub(crate) fn field<'a>(case: &'a str, key: &str) -> &'a str {
     ""
 }
 
+// Whether a word is one of these.
+fn is_key(word: &str, keys: &[&str]) -> bool {
+    for key in keys {
+        if *key == word {
+            return true;
+        }
+    }
+    false
+}
+
 // Whether each line of a case begins with one of these words, or says what the case is about.
 pub(crate) fn is_known(case: &str, keys: &[&str]) -> bool {
     for line in case.lines() {
@@ -49,7 +59,7 @@ pub(crate) fn is_known(case: &str, keys: &[&str]) -> bool {
             Some((word, _)) => word,
             None => line,
         };
-        if !line.is_empty() && word != "#" && !keys.contains(&word) {
+        if !line.is_empty() && word != "#" && !is_key(word, keys) {
             return false;
         }
     }
