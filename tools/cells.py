@@ -162,9 +162,9 @@ def kind(text, signed):
 
 
 def quotient(self, hint, cell, ports, form):
-    """div and mod."""
+    """div and mod. yosys gives an operand that is 0 no bits."""
     width, signed = len(ports["Y"]), is_signed(cell)
-    left, right = ports["A"], ports["B"]
+    left, right = ports["A"] or ["0"], ports["B"] or ["0"]
     if max(len(left), len(right)) >= LIMIT:
         raise Refused(f"{place(cell)}: a division of {LIMIT} bits or more")
     text = f"{form}({kind(self.text(left), signed)}, {kind(self.text(right), signed)})"

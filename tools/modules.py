@@ -1,4 +1,6 @@
 """One module of a netlist as a module of golden's dialect."""
+import re
+
 from cells import LIMIT, Cells, literal
 from memories import Memory
 from refused import info, place
@@ -21,8 +23,8 @@ class Names:
 
 
 def clean(name):
-    """The name with letters, digits and `_` alone."""
-    text = "".join(letter if letter.isascii() and (letter.isalnum() or letter == "_") else "_" for letter in name)
+    """The name with letters, digits and `_` alone: core[10].cpu is core_10_cpu."""
+    text = re.sub(r"[^A-Za-z0-9_]", "_", name.replace("]", ""))
     return f"_{text}" if text[:1].isdigit() or not text else text
 
 
@@ -62,11 +64,13 @@ class Writer(Cells):
         return out
 
     def hint(self, bits, other):
-        """A name for these bits."""
-        for name, low, whole in self.hints.get(bits[0], []):
-            if bits == whole:
-                return name if name not in self.module.ports else f"{name}_value"
-            if whole[low:low + len(bits)] == bits:
+        """A name for these bits: their own, and if that isn't one of a port; then a port's; then that of a part of a longer value."""
+        names = self.hints.get(bits[0], [])
+        whole = [name for name, _, of in names if of == bits]
+        if whole:
+            return next((name for name in whole if name not in self.module.ports), f"{whole[0]}_value")
+        for name, low, of in names:
+            if of[low:low + len(bits)] == bits:
                 return f"{name}_{low + len(bits) - 1}_{low}" if len(bits) > 1 else f"{name}_{low}"
         if other == "register" and self.hints.get(self.muxed.get(tuple(bits), [None])[0]):
             return self.hint(self.muxed[tuple(bits)], "") + "_kept"
@@ -123,7 +127,7 @@ class Writer(Cells):
 
     def declare_instance(self, cell, row):
         """An instance, and what it gives."""
-        name = self.names.new(cell.split(".")[-1] if not cell.startswith("$") else row["type"].split("\\")[-1])
+        name = self.names.new(cell if not cell.startswith("$") else row["type"].split("\\")[-1])
         below = self.known[row["type"]]
         self.lines.append(f"inst {name} of {below.title}{info(row)}")
         for port, inner, direction, low, width in below.pieces_of:
