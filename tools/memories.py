@@ -127,8 +127,11 @@ class Memory:
 
     def connect(self, port, atoms, enable, writer=0):
         """Address, enable and clock of a port: a writer's own clock. A reader has that of the first writer, since it has latency 0."""
-        clock = self.text.text(self.text.atoms(self.row["connections"]["WR_CLK"][writer:writer + 1]))
-        self.text.ends += [f"{port}.addr <= {self.text.text(atoms)}", f"{port}.en <= {enable}", f"{port}.clk <= {clock}"]
+        self.text.ends += [f"{port}.addr <= {self.text.text(atoms)}", f"{port}.en <= {enable}", f"{port}.clk <= {self.clock(writer)}"]
+
+    def clock(self, writer):
+        """The clock of a writer."""
+        return self.text.text(self.text.atoms(self.row["connections"]["WR_CLK"][writer:writer + 1]))
 
     def write(self):
         """The lines of the writers."""
@@ -137,6 +140,7 @@ class Memory:
             atoms, inside = self.place(self.text.atoms(links["WR_ADDR"][k * self.abits:(k + 1) * self.abits]))
             for (name, low, width), mark in zip(self.names, self.marks):
                 enable = self.text.text(self.text.atoms(links["WR_EN"][k * self.width + low:][:1]))
+                enable = self.text.in_turn(self.clock(k), number_of(self.row, "WR_CLK_POLARITY") >> k & 1, enable, literal(0, 1))
                 data = self.text.text(self.text.atoms(links["WR_DATA"][k * self.width + low:][:width]))
                 for part, value in ((name, data), (mark, literal(1, 1))):
                     if part:

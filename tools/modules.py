@@ -1,9 +1,9 @@
 """One module of a netlist as a module of golden's dialect."""
 import re
 
-from cells import LIMIT, Cells, literal
+from cells import LIMIT, Cells, literal, number_of
 from memories import Memory
-from refused import info, place
+from refused import Refused, info, place
 
 
 class Names:
@@ -41,14 +41,15 @@ def port_pieces(ports):
 
 
 class Writer(Cells):
-    """Writes one module. `known` has the writers of the modules below it, `said` is told what the reader should know."""
+    """Writes one module. `known` has the writers of the modules below it, `said` is told what the reader should know, `both` says whether registers
+    take both edges."""
 
-    def __init__(self, module, title, known, said):
-        self.module, self.title, self.known, self.said = module, title, known, said
+    def __init__(self, module, title, known, said, both=False):
+        self.module, self.title, self.known, self.said, self.both = module, title, known, said, both
         self.pieces_of = port_pieces(module.ports)
         super().__init__(Names(name for _, name, _, _, _ in self.pieces_of), {})
         self.atom, self.ends, self.hints = {}, [], self.find_hints()
-        self.memories = {}
+        self.memories, self.levels = {}, {}
 
     def find_hints(self):
         """For each bit its names in the Verilog text: the shortest first, then by the letters. And what muxes do with registers."""
@@ -150,7 +151,7 @@ class Writer(Cells):
     def declare_register(self, row):
         """The registers of a cell, at most LIMIT bits each. One that starts at another value than 0 is kept inverted."""
         links = row["connections"]
-        clock = self.text(self.atoms(links["CLK"]))
+        clock = row["clock"] = self.text(self.atoms(links["CLK"]))
         row["parts"] = []
         for low in range(0, len(links["Q"]), LIMIT):
             bits = links["Q"][low:low + LIMIT]
@@ -187,12 +188,31 @@ class Writer(Cells):
                 value = self.atoms(row["connections"]["D"])
                 for name, low, width, start in row["parts"]:
                     text = self.text(value[low:low + width])
-                    self.ends.append(f"{name} <= " + (f"xor({text}, {literal(start, width)})" if start else text))
+                    text = f"xor({text}, {literal(start, width)})" if start else text
+                    edge = number_of(row, "CLK_POLARITY") if "CLK_POLARITY" in row["parameters"] else None
+                    self.ends.append(f"{name} <= {self.in_turn(row['clock'], edge, text, name)}")
             elif cell in self.memories:
                 self.memories[cell].write()
         for port, name, direction, low, width in self.pieces_of:
             if direction == "output":
                 self.ends.append(f"{name} <= {self.text(self.atoms(self.module.ports[port]['bits'][low:low + width]))}")
+
+        for name, bit in self.module.stops:
+            clock = next(iter(self.module.clocks), None)
+            if clock is None:
+                raise Refused(f"{place(self.module.data)}: --stop {name}: its module has no clock")
+            self.ends.append(f"stop({clock}, {self.text(self.atoms([bit]))}, 1) : {self.names.new(f'{name}_stop')}")
+
+    def in_turn(self, clock, edge, text, other):
+        """The text in the rows that end with this edge of the clock, and the other one else. Of a latch, which has no edge, in each row."""
+        if not self.both or edge is None:
+            return text
+        if clock not in self.levels:
+            name = self.levels[clock] = self.names.new(f"{clock}_high")
+            self.widths[name] = 1
+            self.lines.append(f"reg {name} : UInt<1>, {clock}")
+            self.ends.append(f"{name} <= not({name})")
+        return f"mux({self.levels[clock]}, {other if edge else text}, {text if edge else other})"
 
     def finish_instance(self, row):
         """The inputs of an instance."""

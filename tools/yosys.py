@@ -13,17 +13,18 @@ IMPLICIT = re.compile(r"Identifier `\\(.+)' is implicitly declared")
 
 def script(words, folder):
     """The passes of yosys. No pass may make enables, resets or tables of its own: golden has none of them."""
-    defines = "".join(f" -D{one}" for one in words.D)
-    reads = [f'read_verilog{" -sv" if name.endswith(".sv") else ""}{defines} "{name}"' for name in words.files]
-    given = "".join(f" -chparam {one.replace('=', ' ', 1)}" for one in words.P)
+    given = [f"-D{one}" for one in words.D] + [f'-I"{one}"' for one in words.I]
+    reads = [" ".join(["read_verilog", *(["-sv"] if words.sv or name.endswith(".sv") else []), *given, f'"{name}"']) for name in words.files]
+    values = "".join(f" -chparam {one.replace('=', ' ', 1)}" for one in words.P)
+    kept = [f"setattr -set keep 1 w:{one} w:*.{one}" for one in (path.split(".")[-1] for path in words.stop)]
     return reads + [
-        f"hierarchy -check -top {words.top}{given}", "proc -norom", "check", "tribuf", *(["flatten"] if words.flatten else []), "chformal -remove",
+        f"hierarchy -check -top {words.top}{values}", "proc -norom", *(["flatten"] if words.flatten else []), "tribuf -logic", "check", "chformal -remove", *kept,
         OPTIMIZE, "wreduce", OPTIMIZE, f'write_json "{folder}/before.json"', "async2sync",
         "memory -norom -nordff -nomap -nowiden -nosat", "dffunmap", "pmuxtree", "bmuxmap", "demuxmap", "opt_clean", f'write_json "{folder}/after.json"']
 
 
 def run_yosys(words):
-    """The netlist before and after asynchronous resets become synchronous, and the names that yosys made nets of without a declaration."""
+    """The netlist before and after asynchronous resets and latches become synchronous, and the names that yosys made nets of without a declaration."""
     with tempfile.TemporaryDirectory() as folder:
         name = os.path.join(folder, "script.ys")
         with open(name, "w") as file:
@@ -46,6 +47,7 @@ def judge(done):
         if "multiple conflicting drivers for" in line:
             name = line.split("drivers for ", 1)[1].rstrip(":").replace("\\", "")
             rest = [more.strip() for more in lines[number + 1:] if more.startswith("    ")]
-            raise Refused(f"{name} has two drivers: {', '.join(rest[:2])}")
+            more = "" if all("($" in one for one in rest[:2]) else "; --flatten makes one module of all, and may end it"
+            raise Refused(f"{name} has two drivers: {', '.join(rest[:2])}{more}")
     if done.returncode:
         raise Refused(f"yosys ends with status {done.returncode}: {done.stdout[-300:]}")
