@@ -85,7 +85,8 @@ class Module:
             return "the clock is a constant, or nothing drives it"
         name = self.driver[bit][0]
         row = self.cells[name]
-        return f"the clock is computed at {place(row)}: a clock is an input of the top"
+        more = "; --flatten makes one module of all, and may end it" if row["type"] in self.deep else ""
+        return f"the clock is computed at {place(row)}: a clock is an input of the top{more}"
 
     def not_data(self, port, bit):
         """Refuses a clock that is read as data."""

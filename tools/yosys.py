@@ -33,17 +33,18 @@ def run_yosys(words):
             done = subprocess.run(["yosys", "-q", "-s", name], stdout=subprocess.PIPE, stderr=subprocess.STDOUT, text=True)
         except FileNotFoundError:
             raise Refused("yosys isn't found: on Debian, apt-get install yosys")
-        judge(done)
+        judge(done, words)
         before, after = [json.load(open(os.path.join(folder, part)))["modules"] for part in ("before.json", "after.json")]
         return before, after, set(IMPLICIT.findall(done.stdout))
 
 
-def judge(done):
+def judge(done, words):
     """Refuses what yosys refuses, and two drivers of one bit, which it only warns of."""
     lines = done.stdout.splitlines()
     for number, line in enumerate(lines):
         if "ERROR" in line:
-            raise Refused(line.replace("ERROR: ", ""))
+            more = "; --sv reads all files as SystemVerilog" if not words.sv and re.search(r"syntax error|\\assert'|\\assume'", line) else ""
+            raise Refused(line.replace("ERROR: ", "").rstrip(".") + more)
         if "multiple conflicting drivers for" in line:
             name = line.split("drivers for ", 1)[1].rstrip(":").replace("\\", "")
             rest = [more.strip() for more in lines[number + 1:] if more.startswith("    ")]
