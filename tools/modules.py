@@ -52,16 +52,18 @@ class Writer(Cells):
         self.memories, self.levels = {}, {}
 
     def find_hints(self):
-        """For each bit its names in the Verilog text: the shortest first, then by the letters. And what muxes do with registers."""
-        out, self.muxed = {}, {}
+        """For each bit its names in the Verilog text: the shortest first, then by the letters. And what muxes do with registers: in `held` those by
+        which an asynchronous reset acts at once."""
+        out, self.muxed, self.held = {}, {}, {}
         rows = [(len(name), name, row["bits"]) for name, row in self.module.data["netnames"].items() if not row["hide_name"]]
         for _, name, bits in sorted(rows):
             for number, bit in enumerate(bits):
                 out.setdefault(bit, []).append((name, number, bits))
-        for row in self.module.cells.values():
+        for cell, row in self.module.cells.items():
             if row["type"] == "$mux":
                 for port in "AB":
-                    self.muxed.setdefault(tuple(row["connections"][port]), row["connections"]["Y"])
+                    for made in (self.muxed, self.held)[:1 + cell.startswith("$auto$async2sync")]:
+                        made.setdefault(tuple(row["connections"][port]), row["connections"]["Y"])
         return out
 
     def hint(self, bits, other):
@@ -185,12 +187,7 @@ class Writer(Cells):
             if row["type"] in self.known:
                 self.finish_instance(row)
             elif row["type"] == "$dff":
-                value = self.atoms(row["connections"]["D"])
-                for name, low, width, start in row["parts"]:
-                    text = self.text(value[low:low + width])
-                    text = f"xor({text}, {literal(start, width)})" if start else text
-                    edge = number_of(row, "CLK_POLARITY") if "CLK_POLARITY" in row["parameters"] else None
-                    self.ends.append(f"{name} <= {self.in_turn(row['clock'], edge, text, name)}")
+                self.finish_register(row)
             elif cell in self.memories:
                 self.memories[cell].write()
         for port, name, direction, low, width in self.pieces_of:
@@ -202,6 +199,15 @@ class Writer(Cells):
             if clock is None:
                 raise Refused(f"{place(self.module.data)}: --stop {name}: its module has no clock")
             self.ends.append(f"stop({clock}, {self.text(self.atoms([bit]))}, 1) : {self.names.new(f'{name}_stop')}")
+
+    def finish_register(self, row):
+        """The connections of a cell's registers. In a row without its edge a register keeps its value, or takes that of an asynchronous reset."""
+        value, held = self.atoms(row["connections"]["D"]), self.held.get(tuple(row["connections"]["Q"]))
+        edge = number_of(row, "CLK_POLARITY") if "CLK_POLARITY" in row["parameters"] else None
+        for name, low, width, start in row["parts"]:
+            texts = [self.text(self.atoms(held)[low:low + width]) if held else name, self.text(value[low:low + width])]
+            other, text = [f"xor({one}, {literal(start, width)})" if start and one != name else one for one in texts]
+            self.ends.append(f"{name} <= {self.in_turn(row['clock'], edge, text, other)}")
 
     def in_turn(self, clock, edge, text, other):
         """The text in the rows that end with this edge of the clock, and the other one else. Of a latch, which has no edge, in each row."""
