@@ -12,13 +12,14 @@ IMPLICIT = re.compile(r"Identifier `\\(.+)' is implicitly declared")
 
 
 def script(words, folder):
-    """The passes of yosys. No pass may make enables, resets or tables of its own: golden has none of them."""
+    """The passes of yosys. No pass may make enables, resets or tables of its own: golden has none of them. The first tribuf comes before proc, which
+    takes z out of what latches read."""
     given = [f"-D{one}" for one in words.D] + [f'-I"{one}"' for one in words.I]
     reads = [" ".join(["read_verilog", *(["-sv"] if words.sv or name.endswith(".sv") else []), *given, f'"{name}"']) for name in words.files]
     values = "".join(f" -chparam {one.replace('=', ' ', 1)}" for one in words.P)
     kept = [f"setattr -set keep 1 w:{one} w:*.{one}" for one in (path.split(".")[-1] for path in words.stop)]
     return reads + [
-        f"hierarchy -check -top {words.top}{values}", "proc -norom", *(["flatten"] if words.flatten else []), "tribuf -logic", "check", "chformal -remove", *kept,
+        f"hierarchy -check -top {words.top}{values}", "tribuf", "proc -norom", *(["flatten"] if words.flatten else []), "tribuf -logic", "check", "chformal -remove", *kept,
         OPTIMIZE, "wreduce", OPTIMIZE, f'write_json "{folder}/before.json"', "async2sync",
         "memory -norom -nordff -nomap -nowiden -nosat", "dffunmap", "pmuxtree", "bmuxmap", "demuxmap", "opt_clean", f'write_json "{folder}/after.json"']
 
