@@ -49,7 +49,7 @@ def judge(done, words):
         if "multiple conflicting drivers for" in line:
             name = line.split("drivers for ", 1)[1].rstrip(":").replace("\\", "")
             rest = [more.strip() for more in lines[number + 1:] if more.startswith("    ")]
-            more = "" if all("($" in one for one in rest[:2]) else "; --flatten makes one module of all, and may end it"
+            more = "; --flatten makes one module of all, and may end it" if any(re.search(r"of cell \S+ \([^$]", one) for one in rest[:2]) else ""
             raise Refused(f"{name} has two drivers: {', '.join(rest[:2])}{more}")
     if done.returncode:
         raise Refused(f"yosys ends with status {done.returncode}: {done.stdout[-300:]}")
