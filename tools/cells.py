@@ -111,10 +111,10 @@ def is_signed(cell):
 
 
 def bitwise(self, hint, cell, ports, form):
-    """and, or, xor, xnor, not, and the choice of a multiplexer."""
+    """and, or, xor, xnor, not, the choice of a multiplexer, and a tri-state driver, which gives 0 where it is off."""
     width, signed = len(ports["Y"]), is_signed(cell)
     values = [resized(ports[key], width, signed) for key in ("A", "B") if key in ports]
-    choice = self.text(ports["S"]) if "S" in ports else ""
+    choice = "".join(self.text(ports[key]) for key in ("S", "EN") if key in ports)
     return self.pieces(hint, width, lambda low, high: form.format(*[self.text(v[low:high]) for v in values], s=choice), cell)
 
 
@@ -162,9 +162,9 @@ def kind(text, signed):
 
 
 def quotient(self, hint, cell, ports, form):
-    """div and mod."""
+    """div and mod. yosys gives an operand that is 0 no bits."""
     width, signed = len(ports["Y"]), is_signed(cell)
-    left, right = ports["A"], ports["B"]
+    left, right = ports["A"] or ["0"], ports["B"] or ["0"]
     if max(len(left), len(right)) >= LIMIT:
         raise Refused(f"{place(cell)}: a division of {LIMIT} bits or more")
     text = f"{form}({kind(self.text(left), signed)}, {kind(self.text(right), signed)})"
@@ -264,8 +264,10 @@ def moved(self, hint, cell, value, amount, left, fill):
 
 BITWISE = {"$and": "and({}, {})", "$or": "or({}, {})", "$xor": "xor({}, {})", "$xnor": "not(xor({}, {}))", "$not": "not({})",
            "$mux": "mux({s}, {1}, {0})"}
+TRISTATE = {"$tribuf": "mux({s}, {0}, UInt<1>(\"h0\"))"}
 TABLE = [
     (BITWISE, bitwise),
+    (TRISTATE, bitwise),
     ({"$pos": "", "$buf": ""}, alias),
     ({"$add": "add", "$sub": "sub", "$neg": "neg"}, sum_of),
     ({"$mul": ""}, product),

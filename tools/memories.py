@@ -18,6 +18,11 @@ def contents(row):
     return [int(text[len(text) - (k + 1) * width:len(text) - k * width], 2) for k in range(size)]
 
 
+def name_of(memid):
+    """The name of a memory, with those of the blocks that it is in. One that yosys made has its last part alone."""
+    return memid.split(".")[-1].lstrip("\\") if memid.startswith("$") else memid.lstrip("\\")
+
+
 def lanes(row):
     """The runs of bits, each with its lowest bit and its width."""
     width, writers = number_of(row, "WIDTH"), number_of(row, "WR_PORTS")
@@ -39,7 +44,7 @@ class Memory:
         self.width, self.size = number_of(row, "WIDTH"), number_of(row, "SIZE")
         self.abits, self.offset = number_of(row, "ABITS"), number_of(row, "OFFSET")
         self.readers, self.writers = number_of(row, "RD_PORTS"), number_of(row, "WR_PORTS")
-        self.hint = row["parameters"].get("MEMID", cell).lstrip("\\").split(".")[-1]
+        self.hint = name_of(row["parameters"].get("MEMID", cell))
         self.words = contents(row)
         self.names, self.marks = [], []
         if self.size > WORDS and self.writers:
@@ -120,13 +125,13 @@ class Memory:
         make = lambda low, high: f"mux({inside}, {self.text.text(atoms[low:high])}, {literal(0, high - low)})"
         return self.text.pieces(f"{self.hint}_inside", len(atoms), make, self.row)
 
-    def connect(self, port, atoms, enable):
-        """Address, enable and clock of a port."""
-        self.text.ends += [f"{port}.addr <= {self.text.text(atoms)}", f"{port}.en <= {enable}", f"{port}.clk <= {self.clock()}"]
+    def connect(self, port, atoms, enable, writer=0):
+        """Address, enable and clock of a port: a writer's own clock. A reader has that of the first writer, since it has latency 0."""
+        self.text.ends += [f"{port}.addr <= {self.text.text(atoms)}", f"{port}.en <= {enable}", f"{port}.clk <= {self.clock(writer)}"]
 
-    def clock(self):
-        """The clock of its first writer: all clocks tick in each cycle."""
-        return self.text.text(self.text.atoms(self.row["connections"]["WR_CLK"][:1]))
+    def clock(self, writer):
+        """The clock of a writer."""
+        return self.text.text(self.text.atoms(self.row["connections"]["WR_CLK"][writer:writer + 1]))
 
     def write(self):
         """The lines of the writers."""
@@ -135,10 +140,11 @@ class Memory:
             atoms, inside = self.place(self.text.atoms(links["WR_ADDR"][k * self.abits:(k + 1) * self.abits]))
             for (name, low, width), mark in zip(self.names, self.marks):
                 enable = self.text.text(self.text.atoms(links["WR_EN"][k * self.width + low:][:1]))
+                enable = self.text.in_turn(self.clock(k), number_of(self.row, "WR_CLK_POLARITY") >> k & 1, enable, literal(0, 1))
                 data = self.text.text(self.text.atoms(links["WR_DATA"][k * self.width + low:][:width]))
                 for part, value in ((name, data), (mark, literal(1, 1))):
                     if part:
-                        self.connect(f"{part}.w{k}", atoms, inside or literal(1, 1))
+                        self.connect(f"{part}.w{k}", atoms, inside or literal(1, 1), k)
                         self.text.ends += [f"{part}.w{k}.mask <= {enable}", f"{part}.w{k}.data <= {value}"]
 
     def rom(self, atoms, low, width, hint):

@@ -1,7 +1,9 @@
 """One module of a netlist as a module of golden's dialect."""
-from cells import LIMIT, Cells, literal
+import re
+
+from cells import LIMIT, Cells, literal, number_of
 from memories import Memory
-from refused import info, place
+from refused import Refused, info, place
 
 
 class Names:
@@ -21,8 +23,8 @@ class Names:
 
 
 def clean(name):
-    """The name with letters, digits and `_` alone."""
-    text = "".join(letter if letter.isascii() and (letter.isalnum() or letter == "_") else "_" for letter in name)
+    """The name with letters, digits and `_` alone: core[10].cpu is core_10_cpu."""
+    text = re.sub(r"[^A-Za-z0-9_]", "_", name.replace("]", ""))
     return f"_{text}" if text[:1].isdigit() or not text else text
 
 
@@ -39,34 +41,39 @@ def port_pieces(ports):
 
 
 class Writer(Cells):
-    """Writes one module. `known` has the writers of the modules below it, `said` is told what the reader should know."""
+    """Writes one module. `known` has the writers of the modules below it, `said` is told what the reader should know, `both` says whether registers
+    take both edges."""
 
-    def __init__(self, module, title, known, said):
-        self.module, self.title, self.known, self.said = module, title, known, said
+    def __init__(self, module, title, known, said, both=False):
+        self.module, self.title, self.known, self.said, self.both = module, title, known, said, both
         self.pieces_of = port_pieces(module.ports)
         super().__init__(Names(name for _, name, _, _, _ in self.pieces_of), {})
         self.atom, self.ends, self.hints = {}, [], self.find_hints()
-        self.memories = {}
+        self.memories, self.levels = {}, {}
 
     def find_hints(self):
-        """For each bit its names in the Verilog text: the shortest first, then by the letters. And what muxes do with registers."""
-        out, self.muxed = {}, {}
+        """For each bit its names in the Verilog text: the shortest first, then by the letters. And what muxes do with registers: in `held` those by
+        which an asynchronous reset acts at once."""
+        out, self.muxed, self.held = {}, {}, {}
         rows = [(len(name), name, row["bits"]) for name, row in self.module.data["netnames"].items() if not row["hide_name"]]
         for _, name, bits in sorted(rows):
             for number, bit in enumerate(bits):
                 out.setdefault(bit, []).append((name, number, bits))
-        for row in self.module.cells.values():
+        for cell, row in self.module.cells.items():
             if row["type"] == "$mux":
                 for port in "AB":
-                    self.muxed.setdefault(tuple(row["connections"][port]), row["connections"]["Y"])
+                    for made in (self.muxed, self.held)[:1 + cell.startswith("$auto$async2sync")]:
+                        made.setdefault(tuple(row["connections"][port]), row["connections"]["Y"])
         return out
 
     def hint(self, bits, other):
-        """A name for these bits."""
-        for name, low, whole in self.hints.get(bits[0], []):
-            if bits == whole:
-                return name if name not in self.module.ports else f"{name}_value"
-            if whole[low:low + len(bits)] == bits:
+        """A name for these bits: their own, and if that isn't one of a port; then a port's; then that of a part of a longer value."""
+        names = self.hints.get(bits[0], [])
+        whole = [name for name, _, of in names if of == bits]
+        if whole:
+            return next((name for name in whole if name not in self.module.ports), f"{whole[0]}_value")
+        for name, low, of in names:
+            if of[low:low + len(bits)] == bits:
                 return f"{name}_{low + len(bits) - 1}_{low}" if len(bits) > 1 else f"{name}_{low}"
         if other == "register" and self.hints.get(self.muxed.get(tuple(bits), [None])[0]):
             return self.hint(self.muxed[tuple(bits)], "") + "_kept"
@@ -123,7 +130,7 @@ class Writer(Cells):
 
     def declare_instance(self, cell, row):
         """An instance, and what it gives."""
-        name = self.names.new(cell.split(".")[-1] if not cell.startswith("$") else row["type"].split("\\")[-1])
+        name = self.names.new(cell if not cell.startswith("$") else row["type"].split("\\")[-1])
         below = self.known[row["type"]]
         self.lines.append(f"inst {name} of {below.title}{info(row)}")
         for port, inner, direction, low, width in below.pieces_of:
@@ -146,7 +153,7 @@ class Writer(Cells):
     def declare_register(self, row):
         """The registers of a cell, at most LIMIT bits each. One that starts at another value than 0 is kept inverted."""
         links = row["connections"]
-        clock = self.text(self.atoms(links["CLK"]))
+        clock = row["clock"] = self.text(self.atoms(links["CLK"]))
         row["parts"] = []
         for low in range(0, len(links["Q"]), LIMIT):
             bits = links["Q"][low:low + LIMIT]
@@ -180,15 +187,38 @@ class Writer(Cells):
             if row["type"] in self.known:
                 self.finish_instance(row)
             elif row["type"] == "$dff":
-                value = self.atoms(row["connections"]["D"])
-                for name, low, width, start in row["parts"]:
-                    text = self.text(value[low:low + width])
-                    self.ends.append(f"{name} <= " + (f"xor({text}, {literal(start, width)})" if start else text))
+                self.finish_register(row)
             elif cell in self.memories:
                 self.memories[cell].write()
         for port, name, direction, low, width in self.pieces_of:
             if direction == "output":
                 self.ends.append(f"{name} <= {self.text(self.atoms(self.module.ports[port]['bits'][low:low + width]))}")
+
+        for name, bit in self.module.stops:
+            clock = next(iter(self.module.clocks), None)
+            if clock is None:
+                raise Refused(f"{place(self.module.data)}: --stop {name}: its module has no clock")
+            self.ends.append(f"stop({clock}, {self.text(self.atoms([bit]))}, 1) : {self.names.new(f'{name}_stop')}")
+
+    def finish_register(self, row):
+        """The connections of a cell's registers. In a row without its edge a register keeps its value, or takes that of an asynchronous reset."""
+        value, held = self.atoms(row["connections"]["D"]), self.held.get(tuple(row["connections"]["Q"]))
+        edge = number_of(row, "CLK_POLARITY") if "CLK_POLARITY" in row["parameters"] else None
+        for name, low, width, start in row["parts"]:
+            texts = [self.text(self.atoms(held)[low:low + width]) if held else name, self.text(value[low:low + width])]
+            other, text = [f"xor({one}, {literal(start, width)})" if start and one != name else one for one in texts]
+            self.ends.append(f"{name} <= {self.in_turn(row['clock'], edge, text, other)}")
+
+    def in_turn(self, clock, edge, text, other):
+        """The text in the rows that end with this edge of the clock, and the other one else. Of a latch, which has no edge, in each row."""
+        if not self.both or edge is None:
+            return text
+        if clock not in self.levels:
+            name = self.levels[clock] = self.names.new(f"{clock}_high")
+            self.widths[name] = 1
+            self.lines.append(f"reg {name} : UInt<1>, {clock}")
+            self.ends.append(f"{name} <= not({name})")
+        return f"mux({self.levels[clock]}, {other if edge else text}, {text if edge else other})"
 
     def finish_instance(self, row):
         """The inputs of an instance."""

@@ -4,21 +4,19 @@ from refused import Refused, place
 
 
 class Module:
-    """One module. `deep` has the modules that are below it, by the type of their instances."""
+    """One module. `deep` has the modules that are below it, by the type of their instances, `stops` the names and bits that end a run."""
 
-    def __init__(self, name, data, deep):
-        self.name, self.data, self.deep = name, data, deep
+    def __init__(self, name, data, deep, stops=()):
+        self.name, self.data, self.deep, self.stops = name, data, deep, stops
         self.cells, self.ports = data["cells"], data["ports"]
         self.driver = {}
         self.input_of = {}
         for port, row in self.ports.items():
-            if row["direction"] == "inout":
-                raise Refused(f"{place(data)}: the port {port} is an inout")
             if row["direction"] == "input":
                 self.input_of.update({bit: port for bit in row["bits"]})
         for cell, row in self.cells.items():
             self.drive(cell, row)
-        self.used = set()
+        self.used = {bit for _, bit in stops}
         for row in self.cells.values():
             for port, bits in row["connections"].items():
                 if not self.gives(row, port) and not self.is_dead(row, port):
@@ -87,7 +85,8 @@ class Module:
             return "the clock is a constant, or nothing drives it"
         name = self.driver[bit][0]
         row = self.cells[name]
-        return f"the clock is computed at {place(row)}: a clock is an input of the top"
+        more = "; --flatten makes one module of all, and may end it" if row["type"] in self.deep else ""
+        return f"the clock is computed at {place(row)}: a clock is an input of the top{more}"
 
     def not_data(self, port, bit):
         """Refuses a clock that is read as data."""
@@ -98,6 +97,8 @@ class Module:
         for name, row in self.ports.items():
             if row["direction"] == "output" and bit in row["bits"]:
                 raise Refused(f"{place(self.data)}: the output {name} is the clock {port}")
+        if any(bit == one for _, one in self.stops):
+            raise Refused(f"{place(self.data)}: the clock {port} can't be a stop")
 
     def is_clock(self, row, name):
         """Whether a cell's port is a clock's place."""

@@ -35,9 +35,12 @@ def ports_of(name):
 
 
 def rows_of(name):
-    """The names of a trace and its rows of texts, without the cycle."""
+    """The names of a trace, and for each of its cycles the row of texts."""
     with open(name) as file:
         rows = [line.split() for line in file]
     if not rows or rows[0][:1] != ["cycle"]:
         raise Refused(f"{name}: the first line doesn't begin with cycle")
-    return rows[0][1:], [row[1:] for row in rows[1:]]
+    try:
+        return rows[0][1:], {int(row[0]): row[1:] for row in rows[1:] if row}
+    except ValueError:
+        raise Refused(f"{name}: a row doesn't begin with the number of its cycle")

@@ -1,4 +1,5 @@
 """What the tools beside golden share: a refusal, and a place in a Verilog file."""
+import re
 
 
 class Refused(Exception):
@@ -13,7 +14,7 @@ def reason(why):
 def place(thing):
     """FILE:LINE of a cell, a name or a module of yosys, as far as yosys knows it."""
     src = thing.get("attributes", {}).get("src", "").split("|")[0]
-    return src.split("-")[0].rsplit(".", 1)[0] if ":" in src else src
+    return re.sub(r"\.\d+(-\d+\.\d+)?$", "", src)
 
 
 def info(thing):

@@ -90,9 +90,9 @@ circuit echo :
     inst s of send @[examples/echo/echo.v 59:10]
     reg first : UInt<4>, clk @[examples/echo/echo.v 61:5]
     reg last : UInt<4>, clk @[examples/echo/echo.v 61:5]
-    reg seen_value : UInt<8>, clk @[examples/echo/echo.v 61:5]
+    reg total : UInt<8>, clk @[examples/echo/echo.v 61:5]
     node add = bits(add(last, UInt<4>("h1")), 3, 0) @[examples/echo/echo.v 69:25]
-    node add_1 = bits(add(seen_value, UInt<8>("h1")), 7, 0) @[examples/echo/echo.v 70:26]
+    node add_1 = bits(add(total, UInt<8>("h1")), 7, 0) @[examples/echo/echo.v 70:26]
     node add_2 = bits(add(first, UInt<4>("h1")), 3, 0) @[examples/echo/echo.v 72:32]
     node ne = neq(first, last) @[examples/echo/echo.v 57:26]
     node take = and(s.ready, ne) @[examples/echo/echo.v 57:17]
@@ -102,7 +102,7 @@ circuit echo :
     node mux_3 = mux(rst, UInt<1>("h0"), mux) @[examples/echo/echo.v 62:13]
     node mux_4 = mux(rst, UInt<8>("h0"), mux_1) @[examples/echo/echo.v 62:13]
     node mux_5 = mux(rst, UInt<4>("h0"), mux_2) @[examples/echo/echo.v 62:13]
-    node mux_6 = mux(r.valid, add_1, seen_value) @[examples/echo/echo.v 67:17]
+    node mux_6 = mux(r.valid, add_1, total) @[examples/echo/echo.v 67:17]
     node mux_7 = mux(rst, UInt<8>("h0"), mux_6) @[examples/echo/echo.v 62:13]
     node mux_8 = mux(r.valid, add, last) @[examples/echo/echo.v 67:17]
     node mux_9 = mux(rst, UInt<4>("h0"), mux_8) @[examples/echo/echo.v 62:13]
@@ -113,7 +113,7 @@ circuit echo :
     queue.r0.clk <= clk
     first <= mux_11
     last <= mux_9
-    seen_value <= mux_7
+    total <= mux_7
     queue.w0.addr <= mux_5
     queue.w0.en <= UInt<1>("h1")
     queue.w0.clk <= clk
@@ -127,4 +127,4 @@ circuit echo :
     s.start <= take
     s.data <= queue.r0.data
     tx <= s.tx
-    seen <= seen_value
+    seen <= total
