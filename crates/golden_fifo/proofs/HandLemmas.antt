@@ -1,4 +1,4 @@
--- The FIFO can be handed in.
+-- The FIFO and the receiver can be handed in.
 use Rattle.std.proofs.Common.{◌≡◌, ◌≢◌, ℕ, zero, suc, ◌<◌, ◌≤◌, List, [], ◌∷◌, length, map, get_or, false, codes, refl, sym, ◌∙◌, subst, arith}
 use Rattle.std.specs.Prelude.{All, bytes_eq, sum}
 use Rattle.std.specs.List.{list_any}
@@ -38,8 +38,10 @@ module _ {B : Type 0} (piece : B → FlatCircuit) (state : B → State) where
       all-zeros zero d lt = zeros
       all-zeros (suc k) d lt = can.zeros k d (omega (arith, lt))
 
-  -- a list of the FIFO alone
-  pub can-one : (items : List (List ℕ × B)) (a : B) → items ≡ (codes "fifo8", a) ∷ [] → state a ≡ opening (piece a) → length (piece a).signals ≡ 11 → CanHandIn piece state items
-  can-one items a is p e =
+  -- a list of the FIFO and the receiver
+  pub can-two : (items : List (List ℕ × B)) (a b : B) → items ≡ (codes "fifo8", a) ∷ (codes "uart1", b) ∷ [] → state a ≡ opening (piece a) → state b ≡ opening (piece b)
+      → length (piece a).signals ≡ 11 → length (piece b).signals ≡ 1 → CanHandIn piece state items
+  can-two items a b is p q e f =
       subst (CanHandIn piece state) (sym is)
-      (can-more (codes "fifo8") a [] (record { some = omega arith; bytes = refl }) refl p (omega (arith, e)) can-none)
+      (can-more (codes "fifo8") a ((codes "uart1", b) ∷ []) (record { some = omega arith; bytes = refl }) refl p (omega (arith, e, f))
+      (can-more (codes "uart1") b [] (record { some = omega arith; bytes = refl }) refl q (omega (arith, f)) can-none))

@@ -1,23 +1,26 @@
-//! The program golden with a bridge of its own: `fifo8`, a FIFO with four places of 8 bits each, which it hands in. It shows what a program with
-//! bridges of its own has to do. The words of its call are those of golden.
+//! The program golden with two bridges of its own, which it hands in: `fifo8`, a FIFO with four places of 8 bits each, and `uart1`, which writes what
+//! is sent on a line. It shows what a program with bridges of its own has to do. The words of its call are those of golden.
 //!
 //! A [`Fifo`] keeps to a flat circuit, which specs/Fifo has. That it does is proved, so a run with it is a run of the circuit that has this
-//! flat circuit at the bridge's ports.
+//! flat circuit at the bridge's ports. A [`Receiver`] only watches, so nothing is proved of what it does.
 #![tactic(auto)]
 
 mod fifo;
 mod model;
+mod receiver;
 
 ghost use Rattle.std.specs.Prelude.{◌≡◌, [], ◌∷◌, codes, length, IfOk};
 ghost use Rattle.gg_flat.specs.State.{opening};
 
 use crate::fifo::Fifo;
+use crate::receiver::Receiver;
 use gg_bits::Name;
-use gg_bridge::Bridge;
+use gg_bridge::{Bridge, Watcher};
 use gg_io::{FileShelf, NoGate, Shelf, Sink, StreamSink};
 use golden::golden_with;
 use std::alloc::{AllocError, Global};
 use std::process::ExitCode;
+use std::rt::Stdout;
 use std::thread::Threads;
 use std::{env, io};
 
@@ -36,19 +39,21 @@ fn words(rt: &HostRuntime, alloc: Global) -> io::Result<Vec<String>> {
     Ok(words)
 }
 
-// A list of this bridge, with its name.
+// A list of these bridges, with their names.
 fn named(
     alloc: Global,
     fifo: Box<dyn Bridge + Send + Drop>,
+    uart: Box<dyn Bridge + Send + Drop>,
 ) -> Result<Vec<(Name, Box<dyn Bridge + Send + Drop>)>, AllocError>
-    ensures { IfOk result (λ bridges. bridges.items ≡ (codes "fifo8", fifo) ∷ []) }
+    ensures { IfOk result (λ bridges. bridges.items ≡ (codes "fifo8", fifo) ∷ (codes "uart1", uart) ∷ []) }
 {
     let mut bridges = Vec::new(alloc);
     bridges.push((Name::from_str(alloc, "fifo8")?, fifo))?;
+    bridges.push((Name::from_str(alloc, "uart1")?, uart))?;
     Ok(bridges)
 }
 
-// Calls `golden_with` with these words and this bridge, which is in the state of zeros. Returns its status.
+// Calls `golden_with` with these words and these bridges, which are in the state of zeros. Returns its status.
 fn call_with<R: Threads + Sync, S: Shelf, K: Sink, E: Sink>(
     rt: &R,
     alloc: Global,
@@ -57,15 +62,18 @@ fn call_with<R: Threads + Sync, S: Shelf, K: Sink, E: Sink>(
     out: &mut K,
     err: &mut E,
     fifo: Box<dyn Bridge + Send + Drop>,
+    uart: Box<dyn Bridge + Send + Drop>,
 ) -> Result<u8, AllocError>
-    requires zeros { state fifo ≡ opening (piece fifo) }
-    requires few { length (piece fifo).signals ≡ 11 }
+    requires fifo { state fifo ≡ opening (piece fifo) }
+    requires uart { state uart ≡ opening (piece uart) }
+    requires fifo_signals { length (piece fifo).signals ≡ 11 }
+    requires uart_signals { length (piece uart).signals ≡ 1 }
 {
-    let bridges = named(alloc, fifo)?;
+    let bridges = named(alloc, fifo, uart)?;
     Ok(golden_with(rt, alloc, words, shelf, out, err, &NoGate, bridges))
 }
 
-// Calls `golden_with` with these words and the FIFO. Returns its status.
+// Calls `golden_with` with these words, the FIFO, and a receiver that writes to this stream. Returns its status.
 fn call<R: Threads + Sync, S: Shelf, K: Sink, E: Sink>(
     rt: &R,
     alloc: Global,
@@ -73,9 +81,14 @@ fn call<R: Threads + Sync, S: Shelf, K: Sink, E: Sink>(
     shelf: &mut S,
     out: &mut K,
     err: &mut E,
+    sent: Stdout,
 ) -> Result<u8, AllocError> {
     let fifo: Box<dyn Bridge + Send + Drop> = Box::new(alloc, Fifo::new(alloc, 8)?)?;
-    call_with(rt, alloc, words, shelf, out, err, fifo)
+    let uart: Box<dyn Bridge + Send + Drop> = Box::new(
+        alloc,
+        Watcher::new(alloc, 1, Receiver::new(sent, 1))?,
+    )?;
+    call_with(rt, alloc, words, shelf, out, err, fifo, uart)
 }
 
 // The status for want of memory before the call, after its line.
@@ -96,7 +109,15 @@ fn main(rt: HostRuntime) -> ExitCode {
     let mut shelf = FileShelf::new(rt);
     let mut out = StreamSink::new(rt.stdout());
     let mut err = StreamSink::new(rt.stderr());
-    match call(&rt, alloc, words.as_slice(), &mut shelf, &mut out, &mut err) {
+    match call(
+        &rt,
+        alloc,
+        words.as_slice(),
+        &mut shelf,
+        &mut out,
+        &mut err,
+        rt.stdout(),
+    ) {
         Ok(status) => ExitCode::from(status),
         Err(_) => out_of_memory(rt),
     }
