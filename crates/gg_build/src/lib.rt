@@ -13,7 +13,7 @@
 //!   bridge has the bridge with its name among those that are handed in, with its ports in the order of the machine's channels.
 //! - [`build_from`] builds the network that begins with any cycle, with any state of the reference circuit (`IsOpeningFrom`): each unit
 //!   and each listed memory with its part of the state, each bridge with zeros, and each piped channel with the token that a [`Begin`] tells.
-//! - [`placement_of`] makes the hosts of these networks, and tells for each machine its host and its thread there (`IsPlacement` in `specs/Hosts`):
+//! - [`placement_of`] makes the hosts of these networks, and tells for each machine its host and its thread there (`IsPlacement` in `specs/inside/Hosts`):
 //!   two machines have one host exactly if they have one in the plan, no host is without a machine, and the hosts are numbered in the order
 //!   of their first machines.
 //! - A [`Node`] is a host of such machines, of any kind. It passes each call on to that host. [`Node::value`] returns

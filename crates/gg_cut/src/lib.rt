@@ -5,7 +5,7 @@
 //!
 //! - `cut` returns the plan of a design, a request and the models of bridges that are known exactly if the request has no fault, and
 //!   else its first fault. Each channel's capacity is from 1 to 4,096. The channels are those that are left by gg_cut_plan's
-//!   `specs/Direct`;
+//!   gg_cut_plan's `specs/Direct`;
 //! - `deps` returns the channels that a channel of a plan needs. It allocates nothing.
 //!
 //! `draft_of` (`judged`) judges the request and makes gg_cut_parts' `Draft`. The machines are made of it as if there were no bridges

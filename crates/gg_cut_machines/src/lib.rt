@@ -5,7 +5,7 @@
 //!
 //! - `seats_of` gives the numbers of the machines, of which there are fewer than 2^32, and the channels between them;
 //! - `seat_machines` puts the sources, the trays and the bridges behind the hub, the units and the listed memories, so that these
-//!   are the machines of the plan (`ArePlanMachines` in `specs/Seats`);
+//!   are the machines of the plan (`ArePlanMachines` in `specs/inside/Seats`);
 //! - `hosts_of` gives each machine's host, and `machine_name` its name.
 //!
 //! The time is linear, with one exception: to find the hosts each entry of `share` is compared with the units, of which there are at

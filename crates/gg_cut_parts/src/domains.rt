@@ -15,7 +15,7 @@ use gg_order::Design;
 use gg_part::Clocking;
 use std::alloc::{AllocError, Global};
 
-/// What the machines of a cut follow. Code that makes one has to ensure that it is so (`AreDomains` in `specs/Domains`), as
+/// What the machines of a cut follow. Code that makes one has to ensure that it is so (`AreDomains` in `specs/inside/Domains`), as
 /// `domains_of` does.
 pub struct Domains {
     /// The clocks of the circuit that registers and ports follow.

@@ -1,7 +1,7 @@
 //! A cut in the making, and the parts that its machines run.
 //!
 //! `Draft` has all that a cut is made from: the design and the request, what is listed, what each machine has before the routing, and
-//! the channels after it. `IsDraft` in `specs/Draft` says what is known of it. `MachineDraft` is one machine of a draft. The crate promises:
+//! the channels after it. `IsDraft` in `specs/inside/Draft` says what is known of it. `MachineDraft` is one machine of a draft. The crate promises:
 //!
 //! - `cut_part` makes the part of the hub, of a unit or of a listed memory that the plan asks for (`IsCutPart` in gg_cut_plan);
 //! - `moved_part` makes the part of a unit from that of the first unit of its host, with its own numbers and paths: so units of one
@@ -13,7 +13,7 @@
 //! The hub and the listed memories have the clocks of the circuit, and a unit has its own Clock inputs. The crate promises:
 //!
 //! - `domains_of` tells, for a design that keeps to its tree and whose registers are held once, what each register and each port of
-//!   a memory follows in the circuit, and inside of the unit in which it lies (`AreDomains` in `specs/Domains`);
+//!   a memory follows in the circuit, and inside of the unit in which it lies (`AreDomains` in `specs/inside/Domains`);
 //! - [`Domains`] tells a machine's clocks, and which of the two its registers and ports follow;
 //! - `whole_clocking` tells the clocks that the registers and ports of any circuit follow, and `own_clocks` its clocks.
 //!

@@ -2,7 +2,7 @@
 //!
 //! A piped channel has the token 0 in it at the start. So its consumer gets each value a cycle later, as if the design had a
 //! register there. The reference circuit is the design with these registers (gg_cut_reference's `specs/Made`). The crate promises, for the
-//! plan of a request without a fault (`CanPipe` in `specs/CanPipe`):
+//! plan of a request without a fault (`CanPipe` in `specs/inside/CanPipe`):
 //!
 //! - [`pipe`] makes the reference circuit of the plan as a design, with the design's tree. The pipes are the first in the order, and
 //!   the design's order follows.

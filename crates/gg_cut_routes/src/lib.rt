@@ -9,7 +9,7 @@
 //! - [`piped_of`] marks the signals with some names, [`barred_of`] those that are no origins, and [`staying`] gives what stays of
 //!   the hub's signals;
 //! - these channels are good for a network as the channels before are (`channels_routed`, `AreRoutes` in
-//!   `specs/Routes`): no two carry one signal; both signals of a channel have one value in every settled cycle; a machine
+//!   `specs/inside/Routes`): no two carry one signal; both signals of a channel have one value in every settled cycle; a machine
 //!   doesn't take what it gives; the hub, a unit and a listed memory make parts of the circuit; a source gives its input on
 //!   one or more channels, and a tray takes one. A request without a fault has such channels (`plan_is_routed`).
 //!

@@ -293,7 +293,7 @@ fn entries_stand(
 ///
 /// # Errors
 ///
-/// Returns the first fault (`bridge_faults` in `specs/Bridges`), exactly if there is one, or `NoMemory` if an allocation fails.
+/// Returns the first fault (`bridge_faults` in gg_cut_plan's `specs/Bridges`), exactly if there is one, or `NoMemory` if an allocation fails.
 pub fn judge_bridges(
     alloc: Global,
     piece: &Piece,

@@ -30,7 +30,7 @@ use std::alloc::Global;
 ///
 /// # Errors
 ///
-/// Returns the first fault of the entries (`entry_faults` in `specs/Fault`), exactly if they have one, or `NoMemory` if an
+/// Returns the first fault of the entries (`entry_faults` in gg_cut_plan's `specs/Fault`), exactly if they have one, or `NoMemory` if an
 /// allocation fails.
 pub fn judge_entries(alloc: Global, design: &Design, request: &Request) -> Result<Listed, CutFault>
     requires small { IsSmall request.now }
@@ -107,7 +107,7 @@ fn list(alloc: Global, _piece: &Piece, tree: &Tree, request: &Request) -> Result
 ///
 /// # Errors
 ///
-/// Returns the first fault (`channel_faults` in `specs/Fault`), exactly if there is one, or `NoMemory` if an allocation fails.
+/// Returns the first fault (`channel_faults` in gg_cut_plan's `specs/Fault`), exactly if there is one, or `NoMemory` if an allocation fails.
 pub fn judge_channels(
     alloc: Global,
     piece: &Piece,
@@ -135,7 +135,7 @@ pub fn judge_channels(
 ///
 /// # Errors
 ///
-/// Returns the first fault (`pipe_faults` in `specs/Fault`), exactly if there is one, or `NoMemory` if an allocation fails.
+/// Returns the first fault (`pipe_faults` in gg_cut_plan's `specs/Fault`), exactly if there is one, or `NoMemory` if an allocation fails.
 pub fn judge_pipes(
     alloc: Global,
     piece: &Piece,
@@ -156,7 +156,7 @@ pub fn judge_pipes(
 ///
 /// # Errors
 ///
-/// Returns the first fault (`clock_faults` in `specs/Fault`), exactly if there is one, or `NoMemory` if an allocation fails.
+/// Returns the first fault (`clock_faults` in gg_cut_plan's `specs/Fault`), exactly if there is one, or `NoMemory` if an allocation fails.
 pub fn judge_clocks(alloc: Global, tree: &Tree, request: &Request) -> Result<(), CutFault>
     ensures { Tells (first_of (clock_faults tree.now request.now)) result }
 {

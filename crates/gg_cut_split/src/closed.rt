@@ -1,7 +1,7 @@
 //! The machines of a cut are closed.
 //!
 //! If the entries of a request have no fault, its units are apart: none is the top or is in another (`AreApart` in
-//! `specs/Apart`). Its functions are laws: they compute nothing. For a design and what such a request
+//! `specs/inside/Apart`). Its functions are laws: they compute nothing. For a design and what such a request
 //! lists, it promises:
 //!
 //! - what is listed is apart. If the request has no fault at all, there is at most as much of it, and of the plan's
@@ -9,7 +9,7 @@
 //! - a signal belongs to the machine of the longest listed path that holds the signal's path, and to the hub if there
 //!   is none. An instance or a memory belongs to the machine of the longest listed path that is its path or holds it.
 //!   The machine of a listed path has that path as its name (`owner_by_path`; the definitions, by paths alone, are in
-//!   `specs/Longest`);
+//!   `specs/inside/Longest`);
 //! - each channel has the machine that its signal belongs to at one of its ends (`owner_at_end`);
 //! - each signal has at most one channel, between two different machines (`channels_once`);
 //! - the hub, a unit or a memory makes or takes all that the driver or the register of a signal that it makes names

@@ -6,7 +6,7 @@
 //!
 //! - `split` gives the channels in their order. For each machine it gives the channels that the machine takes and
 //!   gives; exactly the signals that it makes or takes, along the order of evaluation; and exactly the memories that
-//!   belong to it (`IsShareOf` in `specs/Share`);
+//!   belong to it (`IsShareOf` in `specs/inside/Share`);
 //! - what the hub, a unit or a memory has makes a part of the circuit (`IsChoice` in gg_part): for each signal that
 //!   it makes, it makes or takes all that the signal's driver, register or memory names.
 //!

@@ -1,5 +1,5 @@
 -- When a step may be done, and why it is refused: the one table of steps, over what it looks at. A network has these
--- facts (`Step`), and so has a marking, which has counts of tokens in place of tokens (gg_net).
+-- facts (`Step`), and so has a marking, which has counts of tokens in place of tokens.
 -- Source: MEMOCODE 2009 (when a node may take, give and finish); ICCAD 2019 for memories that are served port by port.
 -- The order in which conditions are checked is this program's.
 use Rattle.std.specs.Prelude.{ℕ, ◌==◌, List, Bool, true, false, not, Option, Some, None, filter, find, nat_lt}

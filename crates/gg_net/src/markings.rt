@@ -5,11 +5,11 @@
 //! served. A `Marking` has what changes: the cycle of each machine, the number of its ports that were served in this
 //! cycle, and for each channel whether its token was taken in its consumer's cycle and whether it was given in its
 //! producer's cycle (`specs/Marking`). Counts say how often each step was done: for each channel the tokens put and
-//! taken, for each machine the cycles finished and the ports served (`specs/Counts`). A network begins with any cycle,
+//! taken, for each machine the cycles finished and the ports served (`specs/inside/Counts`). A network begins with any cycle,
 //! and a channel may open with a token.
 //!
 //! Its functions are laws: they compute nothing. Each wired network has a layout ([`each_has_layout`]). For a
-//! network that has a layout (`specs/Fits`) and the invariant `Kept` of gg_net, it promises:
+//! network that has a layout (`specs/inside/Fits`) and the invariant `Kept` of gg_net, it promises:
 //!
 //! - an event may be done exactly if the marking doesn't refuse it, every other event is refused for the marking's
 //!   cause, and a step changes the marking as its event does

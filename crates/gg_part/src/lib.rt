@@ -3,9 +3,9 @@
 //! A part has some of the signals, registers and memories of a flat circuit, with numbers of its own (`IsPart` in
 //! `specs/Part`). The signals that it gets from outside are its in-signals. The crate promises:
 //!
-//! - `part_of` builds the part for a choice (`IsChoice` in `specs/Choice`). Its signals, in-signals, out-signals and
+//! - `part_of` builds the part for a choice (`IsChoice` in `specs/inside/Choice`). Its signals, in-signals, out-signals and
 //!   memories are in the order in which they were chosen. It has clocks of its own, each of which follows a clock of the circuit,
-//!   if any, and its registers and ports follow those (`AreTimed` in `specs/Clocking`);
+//!   if any, and its registers and ports follow those (`AreTimed` in `specs/inside/Clocking`);
 //! - a part of a run is a run of the part, whose clocks have the ratios of those that they follow (`part_runs`);
 //! - a part of a well-formed circuit is well formed (`part_formed`);
 //! - if the part's signals are listed along an order of the whole circuit, their numbers are an order of the part

@@ -4,7 +4,7 @@
 //! rows of the window are read and handed over to what takes them ([`Rows`]). The crate promises:
 //!
 //! - [`window_end`] returns where the next window ends: 1,024 cycles on, or at the end;
-//! - [`run_window`] runs a network up to the end of a window, by workers first and then by steps in the fixed order. All
+//! - [`run_window`] runs a network up to the end of a window, by workers first and then by steps in the order of the network. All
 //!   machines then stand there, and no count is past it;
 //! - [`tray_value`] returns the value of a cycle that a tray keeps: the one that the tray's channel carries in that cycle;
 //! - [`trays_of`] tells which machines of a plan are its trays;

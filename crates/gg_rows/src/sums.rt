@@ -47,7 +47,7 @@ impl Rows<Fold> for Folding {
     }
 }
 
-/// Builds the network of a plan, counts it, runs it by this many workers and then by steps in the fixed order, and folds the
+/// Builds the network of a plan, counts it, runs it by this many workers and then by steps in the order of the network, and folds the
 /// rows of the first two out-signals. The plan's circuit should have two out-signals at least.
 ///
 /// # Errors

@@ -1,7 +1,7 @@
 //! The program golden with two bridges of its own, which it hands in: `fifo8`, a FIFO with four places of 8 bits each, and `uart1`, which writes what
 //! is sent on a line. It shows what a program with bridges of its own has to do. The words of its call are those of golden.
 //!
-//! A [`Fifo`] keeps to a flat circuit, which specs/Fifo has. That it does is proved, so a run with it is a run of the circuit that has this
+//! A [`Fifo`] keeps to a flat circuit, which specs/inside/Fifo has. That it does is proved, so a run with it is a run of the circuit that has this
 //! flat circuit at the bridge's ports. A [`Receiver`] only watches, so nothing is proved of what it does.
 #![tactic(auto)]
 
