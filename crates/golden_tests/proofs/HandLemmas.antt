@@ -1,4 +1,4 @@
--- Five echoes can be handed in.
+-- Two and five bridges can be handed in.
 use Rattle.std.proofs.Common.{◌≡◌, ◌≢◌, ℕ, zero, suc, ◌<◌, ◌≤◌, List, [], ◌∷◌, length, map, get_or, false, codes, refl, sym, ◌∙◌, ap, subst, arith}
 use Rattle.std.specs.Prelude.{All, bytes_eq, sum}
 use Rattle.std.specs.List.{list_any}
@@ -38,11 +38,20 @@ module _ {B : Type 0} (piece : B → FlatCircuit) (state : B → State) where
       all-zeros zero d lt = zeros
       all-zeros (suc k) d lt = can.zeros k d (omega (arith, lt))
 
-  pub can-two : (c d : B) → state c ≡ opening (piece c) → state d ≡ opening (piece d) → length (piece c).signals ≡ 2 → length (piece d).signals ≡ 2
-      → CanHandIn piece state ((codes "echo32", c) ∷ (codes "echo64", d) ∷ [])
-  can-two c d r s g h =
-      can-more (codes "echo32") c ((codes "echo64", d) ∷ []) (record { some = omega arith; bytes = refl }) refl r (omega (arith, g, h))
-      (can-more (codes "echo64") d [] (record { some = omega arith; bytes = refl }) refl s (omega (arith, h)) can-none)
+  pub can-two : (k l : List ℕ) (c d : B) → IsBridgeName k → IsBridgeName l → list_any (bytes_eq k) (l ∷ []) ≡ false
+      → state c ≡ opening (piece c) → state d ≡ opening (piece d) → length (piece c).signals ≡ 2 → length (piece d).signals ≡ 2
+      → CanHandIn piece state ((k, c) ∷ (l, d) ∷ [])
+  can-two k l c d kn ln fresh r s g h =
+      can-more k c ((l, d) ∷ []) kn fresh r (omega (arith, g, h))
+      (can-more l d [] ln refl s (omega (arith, h)) can-none)
+
+  pub can-two-at : (items : List (List ℕ × B)) (k l : List ℕ) (c d : B) → items ≡ (k, c) ∷ (l, d) ∷ [] → k ≡ codes "first" → l ≡ codes "other"
+      → state c ≡ opening (piece c) → state d ≡ opening (piece d) → length (piece c).signals ≡ 2 → length (piece d).signals ≡ 2
+      → CanHandIn piece state items
+  can-two-at items k l c d is ek el r s g h =
+      subst (CanHandIn piece state)
+      (sym (is ∙ ap (λ x. (x, c) ∷ (l, d) ∷ []) ek ∙ ap (λ x. (codes "first", c) ∷ (x, d) ∷ []) el))
+      (can-two (codes "first") (codes "other") c d (record { some = omega arith; bytes = refl }) (record { some = omega arith; bytes = refl }) refl r s g h)
 
   pub can-five : (a b o c d : B) → state a ≡ opening (piece a) → state b ≡ opening (piece b) → state o ≡ opening (piece o) → state c ≡ opening (piece c) → state d ≡ opening (piece d)
       → length (piece a).signals ≡ 2 → length (piece b).signals ≡ 2 → length (piece o).signals ≡ 2 → length (piece c).signals ≡ 2 → length (piece d).signals ≡ 2
@@ -51,7 +60,7 @@ module _ {B : Type 0} (piece : B → FlatCircuit) (state : B → State) where
       can-more (codes "echo1") a ((codes "echo8", b) ∷ (codes "other8", o) ∷ (codes "echo32", c) ∷ (codes "echo64", d) ∷ []) (record { some = omega arith; bytes = refl }) refl p (omega (arith, e, f, g, h, i))
       (can-more (codes "echo8") b ((codes "other8", o) ∷ (codes "echo32", c) ∷ (codes "echo64", d) ∷ []) (record { some = omega arith; bytes = refl }) refl q (omega (arith, f, g, h, i))
       (can-more (codes "other8") o ((codes "echo32", c) ∷ (codes "echo64", d) ∷ []) (record { some = omega arith; bytes = refl }) refl t (omega (arith, g, h, i))
-      (can-two c d r s g h)))
+      (can-two (codes "echo32") (codes "echo64") c d (record { some = omega arith; bytes = refl }) (record { some = omega arith; bytes = refl }) refl r s g h)))
 
   pub can-five-at : (items : List (List ℕ × B)) (k l o m n : List ℕ) (a b t c d : B) → items ≡ (k, a) ∷ (l, b) ∷ (o, t) ∷ (m, c) ∷ (n, d) ∷ []
       → k ≡ codes "echo1" → l ≡ codes "echo8" → o ≡ codes "other8" → m ≡ codes "echo32" → n ≡ codes "echo64"

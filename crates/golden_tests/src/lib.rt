@@ -6,11 +6,14 @@
 //!   One loop goes over all of them, since each further test function makes the proof longer.
 //! - `demos`, `large`, `windows`: calls on what a function makes: all sizes of `demo`, files at the limits, runs of more cycles than a tray keeps values.
 //! - `failures`, `outputs`: calls of which each load and each put fails in turn.
+//! - `counted`: how often a bridge is called;
 //! - `workers`: two workers that meet.
 #![tactic(auto)]
 
 #[cfg(test)]
 mod calls;
+#[cfg(test)]
+mod counted;
 #[cfg(test)]
 mod demos;
 #[cfg(test)]

@@ -25,6 +25,16 @@ p.json: {"memories":["m"],"capacity":{"m.r.data":3}}
 k1.trace | cycle a e v | 0 1 1 11 | 1 1 0 22 | 2 3 1 33 | 3 1 1 44 | 4 0 0 00
 prints after 3 loads | cycle o | 0 00 | 1 11 | 2 00 | 3 00 | 4 44
 
+k1.fir = late, line 15 | read-under-write => old
+p.json: {"memories":["m"]}
+k1.trace | cycle a e v | 0 1 1 11 | 1 1 0 22 | 2 3 1 33 | 3 1 1 44 | 4 0 0 00
+prints after 3 loads | cycle o | 0 00 | 1 00 | 2 00 | 3 00 | 4 22
+
+k1.fir = two
+p.json: {"units":["u","v"]}
+k1.trace | cycle x | 0 01 | 1 10 | 2 00
+prints after 3 loads | cycle p q | 0 00 00 | 1 01 fe | 2 11 ed
+
 k1.fir = two
 p.json: {"units":["u","v"],"share":[["u","v"]]}
 k1.trace | cycle x | 0 01 | 1 10 | 2 00
