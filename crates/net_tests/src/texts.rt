@@ -1,11 +1,11 @@
 //! Circuits as texts.
 use std::alloc::{AllocError, Global};
 
-// The counter of examples/counter.fir.
+// The counter of examples/counter/counter.fir.
 pub(crate) const COUNTER: &str =
     "circuit Counter :\n  module Counter :\n    input clock : Clock\n    input reset : UInt<1>\n    output out : UInt<8>\n\n    reg c : UInt<8>, clock with :\n      reset => (UInt<1>(\"h0\"), c) @[Counter.scala 5:20]\n    node n = add(c, UInt<1>(\"h1\"))\n    out <= c\n    c <= mux(reset, UInt<8>(\"h0\"), bits(n, 7, 0))\n";
 
-// The trace of examples/counter.trace.
+// The trace of examples/counter/counter.trace.
 pub(crate) const COUNTER_TRACE: &str = "cycle reset\n0 1\n1 0\n2 0\n3 0\n";
 
 // An output that is the input.

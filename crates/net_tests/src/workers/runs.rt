@@ -131,7 +131,7 @@ fn goes<R: Threads + Sync, L: Link, Z: Streams, G: Gate + Sync>(
 
 // Whether a run of the network of a plan without bridges leaves what is expected. What it computes is picked where this is called, by the
 // design and the request.
-fn is_run<R: Threads + Sync, L: Link, Z: Streams, G: Gate + Sync>(
+fn is_plan_run<R: Threads + Sync, L: Link, Z: Streams, G: Gate + Sync>(
     rt: &R,
     home: L::Home,
     alloc: Global,
@@ -179,7 +179,7 @@ fn is_planned<R: Threads + Sync, L: Link, G: Gate + Sync>(
     let models = Models::new(alloc);
     match cut(alloc, design, request, 1, &models) {
         Ok(plan) => {
-            is_run::<R, L, Brand, G>(
+            is_plan_run::<R, L, Brand, G>(
                 rt, home, alloc, design, request, &models, &plan, inputs, case, row, gate,
             )
         }
