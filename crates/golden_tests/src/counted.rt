@@ -93,7 +93,7 @@ impl Counts {
 }
 
 // A bridge that counts here. It is an echo of 8 bits in the state of zeros.
-fn counted(
+fn make_counted(
     alloc: Global,
     said: &Arc<AtomicU64>,
     answered: &Arc<AtomicU64>,
@@ -154,9 +154,9 @@ fn call_on<R: Threads + Sync, S: Shelf, K: Sink, E: Sink>(
     err: &mut E,
     counts: &Counts,
 ) -> Result<u8, AllocError> {
-    let first = counted(alloc, &counts.said, &counts.answered)?;
+    let first = make_counted(alloc, &counts.said, &counts.answered)?;
     let first: Box<dyn Bridge + Send + Drop> = Box::new(alloc, first)?;
-    let other = counted(alloc, &counts.other_said, &counts.other_answered)?;
+    let other = make_counted(alloc, &counts.other_said, &counts.other_answered)?;
     let other: Box<dyn Bridge + Send + Drop> = Box::new(alloc, other)?;
     call_with(rt, alloc, words, shelf, out, err, first, other)
 }
