@@ -129,6 +129,12 @@ fn goes<R: Threads + Sync, L: Link, Z: Streams, G: Gate + Sync>(
     }
 }
 
+// What a case says. It is a struct since a function with a `&str` can't have what it computes picked where it is called.
+#[derive(Clone, Copy)]
+struct Case<'a> {
+    text: &'a str,
+}
+
 // Whether a run of the network of a plan without bridges leaves what is expected. What it computes is picked where this is called, by the
 // design and the request.
 fn is_plan_run<R: Threads + Sync, L: Link, Z: Streams, G: Gate + Sync>(
@@ -140,7 +146,7 @@ fn is_plan_run<R: Threads + Sync, L: Link, Z: Streams, G: Gate + Sync>(
     _models: &Models,
     plan: &Plan,
     inputs: &Trace,
-    case: &str,
+    case: &Case,
     row: Row,
     gate: &G,
 ) -> bool
@@ -148,7 +154,7 @@ fn is_plan_run<R: Threads + Sync, L: Link, Z: Streams, G: Gate + Sync>(
     requires alone { NeedsNone plan.now }
 {
     match build_alone::<Z>(alloc, plan, inputs) {
-        Ok(net) => goes::<R, L, Z, G>(rt, home, alloc, net, case, row, gate),
+        Ok(net) => goes::<R, L, Z, G>(rt, home, alloc, net, case.text, row, gate),
         Err(_) => false,
     }
 }
@@ -179,8 +185,9 @@ fn is_planned<R: Threads + Sync, L: Link, G: Gate + Sync>(
     let models = Models::new(alloc);
     match cut(alloc, design, request, 1, &models) {
         Ok(plan) => {
+            let case = Case { text: case };
             is_plan_run::<R, L, Brand, G>(
-                rt, home, alloc, design, request, &models, &plan, inputs, case, row, gate,
+                rt, home, alloc, design, request, &models, &plan, inputs, &case, row, gate,
             )
         }
         Err(fault) => {
