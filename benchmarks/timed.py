@@ -37,6 +37,14 @@ def instructions(words, folder):
     return int(re.search(rb"Collected : (\d+)", done.stderr).group(1)), done.stdout
 
 
+def misses(words, folder):
+    """Instructions of a run, first-level misses of data, and branches that a simple predictor misses."""
+    said = ["--cache-sim=yes", "--branch-sim=yes", "--D1=32768,8,64", "--cachegrind-out-file=/dev/null"]
+    done = subprocess.run(["valgrind", "--tool=cachegrind", *said, *words], cwd=folder, stdout=subprocess.DEVNULL, stderr=subprocess.PIPE, check=True)
+    found = [re.search(pattern, done.stderr) for pattern in (rb"I +refs: +([\d,]+)", rb"D1 +misses: +([\d,]+)", rb"Mispredicts: +([\d,]+)")]
+    return [int(one.group(1).replace(b",", b"")) for one in found]
+
+
 def before(program, other, what, cases):
     """Counts instructions of circuits of `make`, each over so many rows, with two programs, and prints a table. The second program is that
     from before `what`. Whether the first takes at most 3 percent more."""

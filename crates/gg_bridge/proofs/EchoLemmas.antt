@@ -1,15 +1,16 @@
 -- An echo is a model, says what it has kept, and keeps what it sees.
 use Rattle.std.proofs.Common.{◌≡◌, ◌≢◌, ℕ, zero, suc, ◌<◌, ◌^◌, List, [], ◌∷◌, length, refl, sym, ◌∙◌, ap, arith}
 use Rattle.std.specs.Prelude.{Contains, All, AllPairs}
-use Rattle.gg_bits.specs.Shape.{shape}
+use Rattle.gg_bits.specs.Shape.{shape, Fits}
 use Rattle.gg_bits.specs.declared.types.Ty.{Ty}
 use Rattle.gg_flat.specs.declared.piece.Register.{Register}
 use Rattle.gg_flat.specs.declared.piece.Driver.TheVariants.{Input}
-use Rattle.gg_flat.specs.Line.{value_at, HasType}
+use Rattle.gg_flat.specs.Line.{value_at, shape_at, HasType}
 use Rattle.gg_flat.specs.Circuit.{FlatCircuit, signal_shapes, driver_at}
 use Rattle.gg_flat.specs.Reads.{Reads, IsPath}
 use Rattle.gg_flat.specs.Order.{IsOrder}
 use Rattle.gg_flat.specs.Settled.{IsInputs}
+use Rattle.gg_flat.specs.State.{IsState}
 use Rattle.gg_flat.specs.WellFormed.{IsWellFormed, MayDrive, IsRegister, IsClock}
 use Rattle.gg_bridge.specs.Model.{IsModel}
 use Rattle.gg_bridge.specs.inside.Model.{IsSaid, IsAnswer}
@@ -114,6 +115,14 @@ module _ (ty : Ty) where
       apart : (out signal : ℕ) → 1 ≡ out → 0 ≡ signal → (path : List ℕ) → IsPath echo out path signal → ⊥
       apart out signal a b [] is = absurd (omega (arith, a, b, is))
       apart out signal a b (next ∷ path) is = reads-none out next is.0
+
+  -- a value of its type makes a state of it
+  pub echo-is-state : (last : ℕ) → last < 2 ^ ty.width → IsState (echo_piece ty) (echo_state last)
+  echo-is-state last fits = record { typed = record { count = refl; fits = at }; held = record { count = refl; each = λ m any lt. absurd (omega (arith, lt)) } }
+    where
+      at : (i : ℕ) → i < 1 → Fits (shape_at (shape ty ∷ []) i) (value_at (last ∷ []) i)
+      at zero lt = fits
+      at (suc i) lt = absurd (omega (arith, lt))
 
   pub echo-said : (last : ℕ) → IsSaid (echo_piece ty) (echo_state last) (last ∷ [])
   echo-said last = record { count = refl; each = λ inputs row settled. ap (λ v. v ∷ []) (settled.driven 1 (omega arith)) }

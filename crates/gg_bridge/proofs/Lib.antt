@@ -21,3 +21,4 @@ pub mod JoinLemmas
 pub mod AllLemmas
 pub mod EachLemmas
 pub mod WatchedLemmas
+mod WorkedSaid

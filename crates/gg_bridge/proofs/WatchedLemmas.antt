@@ -6,6 +6,7 @@ use Rattle.gg_flat.specs.declared.piece.Driver.TheVariants.{Input}
 use Rattle.gg_flat.specs.Line.{value_at}
 use Rattle.gg_flat.specs.Circuit.{driver_at}
 use Rattle.gg_flat.specs.Reads.{Reads}
+use Rattle.gg_flat.specs.State.{IsState}
 use Rattle.gg_flat.specs.Order.{IsOrder}
 use Rattle.gg_flat.specs.WellFormed.{IsWellFormed, MayDrive}
 use Rattle.gg_bridge.specs.Model.{IsModel}
@@ -74,6 +75,9 @@ module _ (ty : Ty) where
 
   pub watched-model : IsModel (watched_piece ty)
   watched-model = record { formed = formed; order = 0 ∷ []; ordered = ordered; clocks = refl; apart = λ out signal a b reaches. absurd (none out a) }
+
+  pub watched-is-state : IsState (watched_piece ty) watching
+  watched-is-state = record { typed = record { count = refl; fits = λ i lt. absurd (omega (arith, lt)) }; held = record { count = refl; each = λ m any lt. absurd (omega (arith, lt)) } }
 
   pub watched-said : (values : List ℕ) → length values ≡ 0 → IsSaid (watched_piece ty) watching values
   watched-said [] e = record { count = refl; each = λ inputs row settled. refl }

@@ -1,6 +1,7 @@
 //! `Bridge`: a model in the host's own code.
 ghost use Rattle.std.specs.Prelude.{◌≡◌, length};
 ghost use Rattle.gg_flat.specs.Settled.{IsInputs};
+ghost use Rattle.gg_flat.specs.State.{IsState};
 ghost use Rattle.gg_bridge.specs.Model.{IsModel};
 ghost use Rattle.gg_bridge.specs.inside.Model.{IsSaid, IsAnswer};
 
@@ -24,7 +25,8 @@ pub trait Bridge {
     /// The flat circuit that it keeps to.
     fn model(&self) -> &Piece
         ensures piece { result.now ≡ piece self.now }
-        ensures model { IsModel (piece self.now) };
+        ensures model { IsModel (piece self.now) }
+        ensures state { IsState (piece self.now) (state self.now) };
 
     /// Fills `out` with the values of the out-signals in the present state, in the model's order.
     fn says(&self, out: &mut [u128])

@@ -18,7 +18,7 @@ use std::alloc::{AllocError, Global};
 use std::marker::Model;
 
 /// A bridge as a machine of its own. Its ins and outs are the model's ports, in an order of its own. No out needs an in. It is a host
-/// of one thread. A contract sees it as this machine.
+/// of one thread. A contract sees this machine, and the bridge.
 #[derive(Drop)]
 pub struct Hosted<B: Bridge + Drop> {
     bridge: B,
@@ -35,14 +35,13 @@ pub struct Hosted<B: Bridge + Drop> {
 }
 
 impl<B: Bridge + Drop> Model for Hosted<B> {
-    ghost use Rattle.gg_node.specs.Machine.{Machine};
     ghost use Rattle.gg_bridge.specs.Turned.{turned};
     ghost use Rattle.gg_bridge.specs.Hosted.{bridge_machine};
-    ghost use Rattle.gg_bridge.specs.inside.Hosted.{IsHosted};
+    ghost use Rattle.gg_bridge.specs.inside.Hosted.{Hosting, IsHosted};
 
-    ghost Value = { Machine };
+    ghost Value = { Hosting B };
 
-    ghost view = { λ host. bridge_machine (turned (B.piece host.bridge) host.ins host.outs) host.cycle (B.state host.bridge) host.latches.items host.flags.items };
+    ghost view = { λ host. record { machine = bridge_machine (turned (B.piece host.bridge) host.ins host.outs) host.cycle (B.state host.bridge) host.latches.items host.flags.items; bridge = host.bridge } };
 
     ghost invariant = { λ host. IsHosted (B.piece host.bridge) (B.state host.bridge) host.ins host.outs host.said.items host.seen.items host.latches.items host.flags.items };
 }
@@ -74,7 +73,8 @@ impl<B: Bridge + Drop> Hosted<B> {
         cycle: u64,
     ) -> Result<Hosted<B>, AllocError>
         requires { ArePorts (B.piece bridge) ins outs }
-        ensures { IfOk result (λ host. host ≡ started_bridge (turned (B.piece bridge) ins outs) cycle (B.state bridge)) }
+        ensures machine { IfOk result (λ host. host.machine ≡ started_bridge (turned (B.piece bridge) ins outs) cycle (B.state bridge)) }
+        ensures bridge { IfOk result (λ host. host.bridge ≡ bridge) }
     {
         let model = bridge.model();
         let seen = vec![in alloc; 0; model.ins().len()]?;
@@ -96,34 +96,34 @@ impl<B: Bridge + Drop> Hosted<B> {
 
     /// The place among the model's in-signals of each in.
     pub fn ins(&self) -> &[u32]
-        ensures count { length result.now ≡ length self.now.latches }
-        ensures runs { ¬ IsTray self.now.behaviour }
-        ensures ports { self.now.ports ≡ [] }
+        ensures count { length result.now ≡ length self.now.machine.latches }
+        ensures runs { ¬ IsTray self.now.machine.behaviour }
+        ensures ports { self.now.machine.ports ≡ [] }
     {
         self.ins.as_slice()
     }
 
     // The token of an out.
     fn value(&self, place: u32) -> u128
-        requires { MayFire self.now place }
-        ensures { IsToken self.now place result }
+        requires { MayFire self.now.machine place }
+        ensures { IsToken self.now.machine place result }
     {
         self.said[self.outs.as_slice()[place as usize] as usize]
     }
 
     // Puts a token into the latch of an in.
     fn put(&mut self, place: u32, token: u128)
-        requires { MayLatch self.old place token }
-        ensures { self.new ≡ with_latch self.old place token }
+        requires { MayLatch self.old.machine place token }
+        ensures { self.new ≡ record self.old { machine = with_latch self.old.machine place token } }
     {
         self.latches[place as usize] = Some(token);
     }
 
     // Advances to the next cycle.
     fn next_cycle(&mut self)
-        requires { MayFinish self.old }
-        ensures next { IsNextState self.old self.new.state }
-        ensures step { self.new ≡ finished self.old self.new.state }
+        requires { MayFinish self.old.machine }
+        ensures next { IsNextState self.old.machine self.new.machine.state }
+        ensures step { self.new.machine ≡ finished self.old.machine self.new.machine.state }
     {
         gather(self.ins.as_slice(), self.latches.as_slice(), &mut self.seen);
         self.bridge.answer(&self.seen);
@@ -135,7 +135,7 @@ impl<B: Bridge + Drop> Hosted<B> {
 
 #[tactic(auto, using(gg_node::proofs::OneLemmas::only, gg_node::proofs::OneLemmas::only_set))]
 impl<B: Bridge + Send + Drop> Host for Hosted<B> {
-    ghost machines = { λ machine. machine ∷ [] };
+    ghost machines = { λ host. host.machine ∷ [] };
 
     fn threads(&self) -> u32 {
         1

@@ -58,4 +58,19 @@ module _ (design : Ordered) (request : Request) (models : Models) (default : ℕ
       }
 
   pub to-run : IsToRun plan columns n (flow_along design request models plan columns n)
-  to-run = record { design = design; request = request; models = models; default = default; rows = circuit_rows design request models columns n; given = given-along; room = room; flow_is = refl }
+  to-run =
+      record {
+        start = plan_start design request;
+        run =
+            record {
+              design = design;
+              request = request;
+              models = models;
+              default = default;
+              rows = circuit_rows design request models columns n;
+              given = given-along;
+              room = room;
+              flow_is = refl;
+            };
+        zeros = refl;
+      }

@@ -13,7 +13,7 @@ use Rattle.gg_cut_plan.specs.declared.plan.Body.TheVariants.{Cut, Memory, Source
 use Rattle.gg_cut_plan.specs.declared.plan.Machine as planned
 use Rattle.gg_cut_plan.specs.declared.plan.Plan.{Plan}
 use Rattle.gg_build.specs.plan.Built.{machine_in}
-use Rattle.gg_build.specs.inside.Bridges.{Table, AreApart, HasOwn, KeepsOthers, TellsBridges, bridge_named}
+use Rattle.gg_build.specs.inside.Bridges.{Table, AreApart, HasOwn, HasSame, KeepsOthers, TellsBridges, bridge_named}
 use Rattle.gg_build.specs.inside.Build.{HasBridges}
 use Rattle.gg_build.specs.inside.Hosts.{AreAllApart, HaveBridges, first_body}
 
@@ -113,6 +113,22 @@ module _ {B : Type 0} where
       by name bridge (inr found) = found
 
 -- ---- hosts
+
+module _ {B : Type 0} where
+  pub same-start : (body : Body) (table : Table B) → HasSame table table body
+  same-start (Cut part) table = tt
+  same-start (Memory part) table = tt
+  same-start (Source place) table = tt
+  same-start Tray table = tt
+  same-start (Bridge body) table = refl
+
+  -- a bridge that isn't taken is still the one that was there at first
+  pub same-still : (own other : Body) (first old new : Table B) → AreApart own other → KeepsOthers own old new → HasSame first old other → HasSame first new other
+  same-still own (Cut part) first old new apart keeps same = tt
+  same-still own (Memory part) first old new apart keeps same = tt
+  same-still own (Source place) first old new apart keeps same = tt
+  same-still own Tray first old new apart keeps same = tt
+  same-still own (Bridge body) first old new apart keeps same = keeps body.name (apart body refl) ∙ same
 
 module _ {B : Type 0} (piece : B → FlatCircuit) (state : B → State) where
   -- a bridge that isn't taken stays

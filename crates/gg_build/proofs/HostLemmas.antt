@@ -1,17 +1,19 @@
 -- Hosts of the machines of a plan.
-use Rattle.std.proofs.Common.{◌≡◌, ℕ, ◌+◌, ◌-◌, ◌<◌, Bool, true, false, ◌&&◌, ◌⊎◌, inl, inr, List, [], ◌∷◌, ◌++◌, None, length, map, get_or, slice_get, refl, sym, ap, subst, ◌∙◌, below_more, arith}
-use Rattle.std.specs.Prelude.{Option, All, if◌then◌else◌, nat_le, nat_lt}
+use Rattle.std.proofs.Common.{◌≡◌, ℕ, ◌+◌, ◌-◌, ◌<◌, Bool, true, false, ◌&&◌, ◌⊎◌, inl, inr, List, [], ◌∷◌, ◌++◌, None, Some, length, map, get_or, slice_get, refl, sym, ap, subst, ◌∙◌, below_more, arith}
+use Rattle.std.specs.Prelude.{Option, All, Contains, if◌then◌else◌, nat_le, nat_lt}
 use Rattle.std.proofs.lemmas.Bool.{cases_eq}
 use Rattle.std.proofs.lemmas.List.{get_or-map, get_or_push, get_or_append_left, length-append, length-map}
 use Rattle.gg_flat.specs.Circuit.{FlatCircuit}
 use Rattle.gg_flat.specs.Line.{value_at}
 use Rattle.gg_flat.specs.Run.{Start}
+use Rattle.gg_flat.specs.State.{State}
 use Rattle.gg_flat.specs.WellFormed.{IsWellFormed}
 use Rattle.gg_cut_plan.specs.Alike.{AreAlike, IsAlike, IsLike}
 use Rattle.gg_cut_plan.specs.declared.plan.Body.{Body}
 use Rattle.gg_cut_plan.specs.declared.plan.Body.TheVariants.{Cut, Memory, Source, Tray, Bridge}
 use Rattle.gg_cut_plan.specs.declared.plan.BridgeBody.{BridgeBody}
 use Rattle.gg_cut_plan.specs.declared.plan.Machine as planned
+use Rattle.gg_cut_plan.specs.declared.plan.Plan.{Plan}
 use Rattle.gg_part.specs.declared.part.Part.{Part}
 use Rattle.gg_order.specs.needs.Needs.{AreNeedsOfOuts}
 use Rattle.gg_program.specs.Programmed.{Programmed}
@@ -23,10 +25,13 @@ use Rattle.gg_fame5.specs.inside.Shared.{Sharing}
 use Rattle.gg_fame5.specs.inside.Shared as shared
 use Rattle.gg_net.specs.inside.Net.{entry_of}
 use Rattle.gg_net.specs.declared.shape.ServedPort.{ServedPort}
-use Rattle.gg_build.specs.plan.Built.{IsUnitOf}
+use Rattle.gg_build.specs.plan.Built.{IsUnitOf, machine_in}
 use Rattle.gg_build.specs.declared.node.Node.{Node}
+use Rattle.gg_build.specs.declared.node.Node.TheVariants as node
+use Rattle.gg_build.specs.inside.Bridges.{HasSame, Table, TellsBridges, bridge_named}
+use Rattle.gg_build.specs.inside.Build.{HasBridges}
 use Rattle.gg_build.specs.inside.Groups.{group_at}
-use Rattle.gg_build.specs.inside.Hosts.{IsUnitPart, IsGroup, IsAlone, IsBuiltWith, IsHost, IsHostOf, AreHosts, AreUnits, body_at, outs_at}
+use Rattle.gg_build.specs.inside.Hosts.{IsUnitPart, IsGroup, IsAlone, IsBuiltWith, IsHost, IsHostOf, IsOwnHost, AreHosts, AreOwnHosts, AreUnits, body_at, first_body, outs_at}
 use Rattle.gg_build.specs.inside.Node.{machines_of}
 
 -- ---- units
@@ -136,3 +141,68 @@ hosts-more starts columns machines members count old new own is was one =
           (λ h lt. subst (IsHostOf starts columns machines (group_at members h)) (sym (get_or_append_left old (own ∷ []) any h (omega (arith, lt, was.total)))) (was.each h any lt))
           (subst (IsHostOf starts columns machines (group_at members count)) (sym (get_or_push old own any count was.total)) one) h;
     })
+
+-- ---- which host a machine has
+
+module _ {B : Type 0} (table : Table B) where
+  abbrev Has : List ℕ → B → Type 0
+  Has name bridge = bridge_named table name ≡ Some bridge
+
+  -- what a machine asks for, by what it is
+  pub own-by : (machines : List planned.Machine) (m : ℕ) (node : Node B) {body : Body} → body_at machines m ≡ body → IsOwnHost Has body node → IsOwnHost Has (body_at machines m) node
+  own-by machines m node is own = subst (λ (b : Body). IsOwnHost Has b node) (sym is) own
+
+  -- one host more
+  pub own-more : (machines : List planned.Machine) (members : List (List ℕ)) (count : ℕ) (old new : List (Node B)) (own : Node B) → new ≡ old ++ own ∷ [] → length old ≡ count → AreOwnHosts table machines members count old → IsOwnHost Has (first_body machines members count) own → AreOwnHosts table machines members (count + 1) new
+  own-more machines members count old new own is total was one =
+      subst (AreOwnHosts table machines members (count + 1)) (sym is)
+      (λ h any. below_more (λ h. IsOwnHost Has (first_body machines members h) (get_or (old ++ own ∷ []) h any)) count
+      (λ h lt. subst (IsOwnHost Has (first_body machines members h)) (sym (get_or_append_left old (own ∷ []) any h (omega (arith, lt, total)))) (was h any lt))
+      (subst (IsOwnHost Has (first_body machines members count)) (sym (get_or_push old own any count total)) one) h)
+
+-- a machine's host is its own also by the table as it was at first
+pub own-as-was : {B : Type 0} (body : Body) (first now : Table B) (node : Node B) → HasSame first now body → IsOwnHost (Has now) body node → IsOwnHost (Has first) body node
+own-as-was (Cut part) first now node same own = own
+own-as-was (Memory part) first now node same own = own
+own-as-was (Source place) first now node same own = own
+own-as-was Tray first now node same own = own
+own-as-was (Bridge body) first now (node.Unit unit) same own = own
+own-as-was (Bridge body) first now (node.Shared units) same own = own
+own-as-was (Bridge body) first now (node.Memory machine) same own = own
+own-as-was (Bridge body) first now (node.Source machine) same own = own
+own-as-was (Bridge body) first now (node.Tray machine) same own = own
+own-as-was (Bridge body) first now (node.Bridge host) same own = sym same ∙ own
+
+module _ {B : Type 0} (Is : List ℕ → B → Type 0) where
+  -- units that share a host have one of one kind
+  pub own-alike : (one other : Body) (node : Node B) → AreAlike one other → IsOwnHost Is one node → IsOwnHost Is other node
+  own-alike (Cut part) (Cut again) node alike own = own
+  own-alike (Cut part) (Memory again) node alike own = absurd alike
+  own-alike (Cut part) (Source place) node alike own = absurd alike
+  own-alike (Cut part) Tray node alike own = absurd alike
+  own-alike (Cut part) (Bridge bridge) node alike own = absurd alike
+  own-alike (Memory part) other node alike own = absurd alike
+  own-alike (Source place) other node alike own = absurd alike
+  own-alike Tray other node alike own = absurd alike
+  own-alike (Bridge bridge) other node alike own = absurd alike
+
+-- the bridge that the table has under a name is the one that is handed in with it
+pub own-handed : {B : Type 0} (piece : B → FlatCircuit) (state : B → State) (plan : Plan) (bridges : List (List ℕ × B)) (table : Table B) → HasBridges piece state plan bridges → TellsBridges bridges table → (m : ℕ) (body : Body) (node : Node B) → m < length plan.machines → (machine_in plan m).body ≡ body
+    → IsOwnHost (Has table) body node → IsOwnHost (λ name bridge. Contains bridges (name, bridge)) body node
+own-handed piece state plan bridges table has tells m (Cut part) node lt is own = own
+own-handed piece state plan bridges table has tells m (Memory part) node lt is own = own
+own-handed piece state plan bridges table has tells m (Source place) node lt is own = own
+own-handed piece state plan bridges table has tells m Tray node lt is own = own
+own-handed piece state plan bridges table has tells m (Bridge body) (node.Unit unit) lt is own = own
+own-handed piece state plan bridges table has tells m (Bridge body) (node.Shared units) lt is own = own
+own-handed piece state plan bridges table has tells m (Bridge body) (node.Memory machine) lt is own = own
+own-handed piece state plan bridges table has tells m (Bridge body) (node.Source machine) lt is own = own
+own-handed piece state plan bridges table has tells m (Bridge body) (node.Tray machine) lt is own = own
+own-handed {B = B} piece state plan bridges table has tells m (Bridge body) (node.Bridge host) lt is own =
+    let it = has.each m body lt is in
+    let same : it.bridge ≡ host.bridge = ap there (sym (tells body.name it.bridge it.known) ∙ own) in
+    subst (λ bridge. Contains bridges (body.name, bridge)) same it.known
+  where
+    there : Option B → B
+    there (Some bridge) = bridge
+    there None = host.bridge

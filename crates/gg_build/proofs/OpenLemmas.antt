@@ -6,7 +6,6 @@ use Rattle.gg_flat.specs.Run.{Start}
 use Rattle.gg_flat.specs.Streams.{Flow}
 use Rattle.gg_cut_plan.specs.declared.plan.Body.{Body}
 use Rattle.gg_cut_plan.specs.declared.plan.Plan.{Plan}
-use Rattle.gg_cut_reference.specs.Follows.{plan_token}
 use Rattle.gg_node.specs.Machine.{Machine, machine_at, no_machine}
 use Rattle.gg_net.specs.declared.shape.Wire.{Wire}
 use Rattle.gg_net.specs.declared.shape.Station.{Station}
@@ -17,7 +16,7 @@ use Rattle.gg_net.specs.inside.Net.{entry_of, IsListed, Opens}
 use Rattle.gg_net.specs.Net.{opening_net}
 use Rattle.gg_cut_reference.proofs.WholeLemmas.PortLemmas.{plan-ins}
 use Rattle.gg_cut_reference.proofs.WholeLemmas.RunLemmas.{whole-runs}
-use Rattle.gg_build.specs.plan.Built.{machine_in, wires_of_plan, AreBuilt, IsBuilt, body_start, flow_of, plan_frame}
+use Rattle.gg_build.specs.plan.Built.{machine_in, wires_of_plan, AreBuilt, body_start, flow_of, plan_frame}
 use Rattle.gg_build.proofs.PlanLemmas.PlanLemmas.{plan-listed, plan-wired, plan-no-ring}
 use Rattle.gg_build.proofs.PlanLemmas.FitLemmas.{kind-is}
 use Rattle.gg_build.proofs.PlanLemmas.SolvedLemmas.{plan-solved}
@@ -27,7 +26,9 @@ use Rattle.gg_build.specs.declared.node.Node.{Node}
 use Rattle.gg_build.specs.inside.Node.{machines_of}
 use Rattle.gg_build.specs.declared.begin.Begin.{Begin}
 use Rattle.gg_build.specs.inside.Begin.{AreTokens, starts_of}
-use Rattle.gg_build.specs.inside.Build.{IsStarted, IsToStart}
+use Rattle.gg_build.specs.Build.{IsOpeningFrom, IsToRunFrom, run_token}
+use Rattle.gg_build.specs.inside.Build.{Begins}
+use Rattle.gg_build.proofs.BeginLemmas.{built-there}
 use Rattle.gg_build.specs.inside.Hosts.{IsPlacement, IsBuiltWith}
 use Rattle.gg_build.proofs.PlacementLemmas.{no_station}
 
@@ -53,16 +54,20 @@ module _ {B : Type 0} (plan : Plan) (begin : Begin) (columns : List (List ℕ)) 
         each = λ m lt. subst (IsBuiltWith starts columns (length (machine_in plan m).outs) (machine_in plan m).body) (sym (machine-is m no_station lt)) (are.each m no_station lt).built;
       }
 
-  -- ---- for a flow
+  -- ---- for a run
 
-  module _ (flow : Flow) (is : IsToStart plan begin columns n flow) where
+  module _ (start : Start) (flow : Flow) (run : IsToRunFrom plan start columns n flow) (begins : Begins run.design run.request plan start begin) where
     abbrev token : ℕ → ℕ
-    token = plan_token is.design is.request is.start.state
+    token = run_token run
+
+    -- the machines begin with their parts of the start
+    built : AreBuilt plan (body_start start) columns machines
+    built = built-there run.design run.request run.models run.default plan run.given.planned start begin begins columns machines are-built
 
     is-listed : (m : ℕ) (s : Station) → m < length plan.machines → IsListed (wires_of_plan token plan) m (kind_at (map kind_of machines) m) (get_or stations m s)
     is-listed m s lt =
         let there = are.each m s lt in
-        let at = plan-listed is.design is.request is.models is.default plan columns n is.start is.rows token starts machines is.given are-built m lt in
+        let at = plan-listed run.design run.request run.models run.default plan columns n start run.rows token starts machines run.given are-built m lt in
         let kind : kind_at (map kind_of machines) m ≡ kind_of (stationed lists_of (get_or stations m s)) = kind-is machines m (omega (arith, lt, are-built.count)) ∙ ap kind_of (machine-is m s lt) in
         record {
           ins = ap length there.ins ∙ at.ins;
@@ -73,36 +78,29 @@ module _ {B : Type 0} (plan : Plan) (begin : Begin) (columns : List (List ℕ)) 
           few = at.few;
         }
 
-    -- the machines begin with their parts of the start
-    begins : AreBuilt plan (body_start is.start) columns machines
-    begins =
-        record {
-          count = are-built.count;
-          each = λ m lt. subst (λ (own : Start). IsBuilt columns (length (machine_in plan m).outs) own (machine_in plan m).body (machine_at machines m)) (is.starts m lt) (are-built.each m lt);
-        }
-
-    is-sound : IsSound (flow_of is.design is.request plan is.start is.rows) (plan_frame token plan machines n)
+    is-sound : IsSound (flow_of run.design run.request plan start run.rows) (plan_frame token plan machines n)
     is-sound =
         record {
-          wired = plan-wired is.design is.request is.models is.default plan columns n is.start is.rows token starts machines is.given are-built;
-          no_ring = plan-no-ring is.design is.request is.models is.default plan columns n is.start is.rows token starts machines is.given are-built;
-          solves = plan-solved is.design is.request is.models is.default plan columns n is.start is.rows machines is.given begins (whole-runs is.design is.request is.models is.start columns n is.rows is.given.can is.given.typed is.given.given is.given.run) (plan-ins is.design is.request is.models is.given.can);
+          wired = plan-wired run.design run.request run.models run.default plan columns n start run.rows token starts machines run.given are-built;
+          no_ring = plan-no-ring run.design run.request run.models run.default plan columns n start run.rows token starts machines run.given are-built;
+          solves = plan-solved run.design run.request run.models run.default plan columns n start run.rows machines run.given built (whole-runs run.design run.request run.models start columns n run.rows run.given.can run.given.typed run.given.given run.given.run) (plan-ins run.design run.request run.models run.given.can);
         }
 
-    opens-plan : Opens (flow_of is.design is.request plan is.start is.rows) lists_of stations (wires_of_plan token plan) n
+    opens-plan : Opens (flow_of run.design run.request plan start run.rows) lists_of stations (wires_of_plan token plan) n
     opens-plan =
         record {
           stationed = are.threads;
-          opening = λ m lt. built-opening is.design is.request is.models is.default plan columns n is.start is.rows machines is.given begins m (omega (arith, lt, length-map stations (stationed lists_of)));
+          opening = λ m lt. built-opening run.design run.request run.models run.default plan columns n start run.rows machines run.given built m (omega (arith, lt, length-map stations (stationed lists_of)));
           listed = λ m s lt. is-listed m s (omega (arith, lt, are.total));
-          limits = plan-within is.design is.request is.models is.default plan columns n is.start is.rows token starts machines is.given are-built is.room;
+          limits = plan-within run.design run.request run.models run.default plan columns n start run.rows token starts machines run.given are-built run.room;
           sound = is-sound;
         }
 
-    pub opens : (wires : List Wire) → ((token : ℕ → ℕ) → AreTokens plan.channels token begin.tokens.items → wires ≡ wires_of_plan token plan) → Opens flow lists_of stations wires n
-    opens wires same =
-        subst (λ (ws : List Wire). Opens flow lists_of stations ws n) (sym (same token is.tokens))
-        (subst (λ (f : Flow). Opens f lists_of stations (wires_of_plan token plan) n) (sym is.flow_is) opens-plan)
+    module _ (wires : List Wire) (same : (token : ℕ → ℕ) → AreTokens plan.channels token begin.tokens.items → wires ≡ wires_of_plan token plan) where
+      pub opens : Opens flow lists_of stations wires n
+      opens =
+          subst (λ (ws : List Wire). Opens flow lists_of stations ws n) (sym (same token begins.tokens))
+          (subst (λ (f : Flow). Opens f lists_of stations (wires_of_plan token plan) n) (sym run.flow_is) opens-plan)
 
-  pub started : (wires : List Wire) (net : Network) → ((token : ℕ → ℕ) → AreTokens plan.channels token begin.tokens.items → wires ≡ wires_of_plan token plan) → net ≡ opening_net machines wires n → IsStarted plan begin columns n net
-  started wires net same is = record { machines = machines; built = are-built; is = λ token have. is ∙ ap (λ (ws : List Wire). opening_net machines ws n) (same token have) }
+      pub opens-there : (net : Network) → net ≡ opening_net machines wires n → IsOpeningFrom plan start token columns n net
+      opens-there net is = record { machines = machines; built = built; is = is ∙ ap (λ (ws : List Wire). opening_net machines ws n) (same token begins.tokens) }

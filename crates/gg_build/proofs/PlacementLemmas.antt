@@ -1,5 +1,6 @@
 -- The stations of a plan's machines at their hosts.
-use Rattle.std.proofs.Common.{◌≡◌, ℕ, ◌+◌, ◌<◌, List, [], ◌∷◌, ◌++◌, length, map, get_or, refl, sym, ap, subst, ◌∙◌, below_more, arith}
+use Rattle.std.proofs.Common.{◌≡◌, ℕ, ◌+◌, ◌<◌, ◌⊎◌, inl, inr, List, [], ◌∷◌, ◌++◌, Some, length, map, get_or, refl, sym, ap, subst, ◌∙◌, below_more, arith}
+use Rattle.std.proofs.lemmas.Bool.{cases_eq}
 use Rattle.std.proofs.lemmas.List.{get_or-map, get_or_default, get_or_push, get_or_append_left, length-append, length-map}
 use Rattle.gg_flat.specs.Circuit.{FlatCircuit}
 use Rattle.gg_flat.specs.Line.{value_at}
@@ -16,9 +17,11 @@ use Rattle.gg_build.specs.plan.Built.{machine_in, nameless}
 use Rattle.gg_build.specs.declared.node.Node.{Node}
 use Rattle.gg_build.specs.declared.node.Node.TheVariants as node
 use Rattle.gg_build.specs.inside.Groups.{group_at, IsMember, AreGroups, HasEarlier}
-use Rattle.gg_build.specs.inside.Bridges.{Table, HasOwn}
-use Rattle.gg_build.specs.inside.Hosts.{AreAllApart, HaveBridges, HaveNames, first_body, CanBuildAll, IsBuiltWith, IsGroup, IsHostOf, AreHosts, IsStation, AreStations, IsPlaced, IsPlacement, body_at, outs_at}
+use Rattle.gg_build.specs.inside.Bridges.{Table, HasOwn, TellsBridges, bridge_named}
+use Rattle.gg_build.specs.inside.Build.{HasBridges}
+use Rattle.gg_build.specs.inside.Hosts.{AreAllApart, HaveBridges, HaveNames, first_body, CanBuildAll, IsBuiltWith, IsGroup, IsHostOf, IsOwnHost, AreHosts, AreOwnHosts, HaveOwnHosts, IsStation, AreStations, IsPlaced, IsPlacement, body_at, outs_at}
 use Rattle.gg_build.specs.inside.Node.{machines_of}
+use Rattle.gg_build.proofs.HostLemmas.{own-alike, own-handed}
 
 -- the plan's numbers of the hosts of these machines
 abbrev pub numbers_of : List planned.Machine → List ℕ
@@ -201,6 +204,31 @@ module _ (starts : Body → Start) (columns : List (List ℕ)) (machines : List 
                   λ is. sym one ∙ both.1 (sym (station-at m s low).host_is ∙ is ∙ (station-at k t high).host_is) ∙ two,
                 );
           }
+
+      -- each machine is at the host that it asks for
+      pub own-hosts : (piece : B → FlatCircuit) (state : B → State) (plan : Plan) → machines ≡ plan.machines → (bridges : List (List ℕ × B)) (table : Table B) → HasBridges piece state plan bridges → TellsBridges bridges table → AreOwnHosts table machines members (length members) nodes
+          → HaveOwnHosts plan bridges nodes stations
+      own-hosts piece state plan same bridges table has tells all m s any lt =
+          let low : m < length machines = omega (arith, lt, ap length same) in
+          let h = value_at hosts m in
+          let is = at m low in
+          let node = get_or nodes (get_or stations m s).host any in
+          let first : IsOwnHost (λ name bridge. bridge_named table name ≡ Some bridge) (first_body machines members h) node =
+          subst (λ k. IsOwnHost (λ name bridge. bridge_named table name ≡ Some bridge) (first_body machines members h) (get_or nodes k any)) (sym (station-at m s low).host_is) (all h any is.host)
+          in
+          let own : (get_or machines m nameless).body ≡ (machine_in plan m).body = ap (λ (l : List planned.Machine). (get_or l m nameless).body) same in
+          own-handed piece state plan bridges table has tells m (machine_in plan m).body node lt refl
+          (subst (λ (b : Body). IsOwnHost (λ name bridge. bridge_named table name ≡ Some bridge) b node) (ap (body_at machines) is.is ∙ own) (like-first h (value_at threads m) node is.host is.thread first))
+        where
+          like-first : (h t : ℕ) (node : Node B) → h < length members → t < length (group_at members h) → IsOwnHost (λ name bridge. bridge_named table name ≡ Some bridge) (first_body machines members h) node
+              → IsOwnHost (λ name bridge. bridge_named table name ≡ Some bridge) (body_at machines (value_at (group_at members h) t)) node
+          like-first h t node low inside own = by (cases_eq 0 t)
+            where
+              by : (0 ≡ t) ⊎ (0 ≡ t → ⊥) → IsOwnHost (λ name bridge. bridge_named table name ≡ Some bridge) (body_at machines (value_at (group_at members h) t)) node
+              by (inl first) = subst (λ k. IsOwnHost (λ name bridge. bridge_named table name ≡ Some bridge) (body_at machines (value_at (group_at members h) k)) node) first own
+              by (inr other) =
+                  own-alike (λ name bridge. bridge_named table name ≡ Some bridge) (first_body machines members h) (body_at machines (value_at (group_at members h) t)) node
+                  ((group-can h low).alike 0 t (groups.some h low) inside other) own
 
 -- one station more
 pub stations-more : {B : Type 0} (machines : List planned.Machine) (hosts threads : List ℕ) (nodes : List (Node B)) (count : ℕ) (old new : List Station) (own : Station) → new ≡ old ++ own ∷ [] → AreStations machines hosts threads nodes count old

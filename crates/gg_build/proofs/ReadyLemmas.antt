@@ -27,7 +27,8 @@ use Rattle.gg_build.proofs.PlanLemmas.StandLemmas.{memory-formed, memory-chosen,
 use Rattle.gg_build.proofs.PlanLemmas.SeenLemmas.{seen-typed}
 use Rattle.gg_build.specs.declared.begin.Begin.{Begin}
 use Rattle.gg_build.specs.inside.Begin.{starts_of}
-use Rattle.gg_build.specs.inside.Build.{IsFaultless, IsToStart}
+use Rattle.gg_build.specs.inside.Build.{IsFaultless, IsToBegin}
+use Rattle.gg_build.proofs.BeginLemmas.{machine-begins}
 use Rattle.gg_build.specs.inside.Bridges.{IsOther}
 use Rattle.gg_build.specs.inside.Hosts.{CanBegin, CanBuild, CanBuildAll, HaveNames, outs_at}
 
@@ -119,13 +120,15 @@ module _ (design : Ordered) (request : Request) (models : Models) (default : ℕ
 
 -- ---- the machines of a plan that is to run
 
-module _ (plan : Plan) (begin : Begin) (columns : List (List ℕ)) (n : ℕ) (flow : Flow) (is : IsToStart plan begin columns n flow) where
+module _ (plan : Plan) (begin : Begin) (columns : List (List ℕ)) (n : ℕ) (flow : Flow) (is : IsToBegin plan begin columns n flow) where
   pub all-ready : CanBuildAll (starts_of plan.ratios begin) columns plan.machines
-  all-ready = can-build-all is.design is.request is.models is.default plan columns n is.start is.rows is.given (starts_of plan.ratios begin) is.starts
+  all-ready =
+      can-build-all is.run.design is.run.request is.run.models is.run.default plan columns n is.start is.run.rows is.run.given (starts_of plan.ratios begin)
+      (machine-begins is.run.design is.run.request is.run.models is.run.default plan is.run.given.planned is.start begin is.begins)
 
   pub all-named : HaveNames plan.machines
-  all-named = have-names is.design is.request is.models is.default plan columns n is.start is.rows is.given
+  all-named = have-names is.run.design is.run.request is.run.models is.run.default plan columns n is.start is.run.rows is.run.given
 
   pub faultless : IsFaultless plan
   faultless =
-      record { design = is.design; request = is.request; models = is.models; default = is.default; can = is.given.can; some = is.given.some; planned = is.given.planned }
+      record { design = is.run.design; request = is.run.request; models = is.run.models; default = is.run.default; can = is.run.given.can; some = is.run.given.some; planned = is.run.given.planned }

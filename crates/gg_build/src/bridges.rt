@@ -1,12 +1,12 @@
 //! The bridges that are handed in, by their names.
-ghost use Rattle.std.specs.Prelude.{◌≡◌, ◌≢◌, map, AllPairs, IfOk, OnOk};
+ghost use Rattle.std.specs.Prelude.{◌≡◌, ◌≢◌, map, AllPairs, IfOk, OnOk, Some};
 ghost use Rattle.gg_flat.specs.State.{opening};
 ghost use Rattle.gg_bridge.specs.Turned.{turned};
 ghost use Rattle.gg_bridge.specs.Hosted.{started_bridge};
 ghost use Rattle.gg_bridge.specs.inside.Hosted.{ArePorts};
 ghost use Rattle.gg_cut_plan.specs.declared.plan.Body.TheVariants.{Bridge as OfBridge};
-ghost use Rattle.gg_build.specs.inside.Bridges.{IsTold, KeepsOthers, TellsBridges};
-ghost use Rattle.gg_build.specs.inside.Hosts.{IsHost};
+ghost use Rattle.gg_build.specs.inside.Bridges.{IsTold, KeepsOthers, TellsBridges, bridge_named};
+ghost use Rattle.gg_build.specs.inside.Hosts.{IsHost, IsHostOfBridge};
 
 use crate::node::Node;
 use gg_bits::{Name, copied};
@@ -49,6 +49,7 @@ pub(crate) fn bridge_host<'a, B: Bridge + Drop>(
     requires told { IsTold B.piece B.state bridges.old body.now }
     requires ports { ArePorts body.now.model body.now.ins body.now.outs }
     ensures host { IfOk result (IsHost (λ machine. machine ≡ started_bridge (turned body.now.model body.now.ins body.now.outs) cycle (opening body.now.model))) }
+    ensures own { IfOk result (IsHostOfBridge (λ bridge. bridge_named bridges.old body.now.name ≡ Some bridge)) }
     ensures others { OnOk result (KeepsOthers (OfBridge body.now) bridges.old bridges.new) }
 {
     let ins = copied(alloc, body.ins.as_slice())?;

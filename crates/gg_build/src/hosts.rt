@@ -1,5 +1,5 @@
 //! The hosts of a plan's machines.
-ghost use Rattle.std.specs.Prelude.{◌≡◌, ℕ, ◌<◌, ◌≤◌, [], None, false, IfOk, OnOk, length, replicate, slice_index_or, map};
+ghost use Rattle.std.specs.Prelude.{◌≡◌, ℕ, ◌<◌, ◌≤◌, [], None, Some, false, IfOk, OnOk, length, replicate, slice_index_or, map};
 ghost use Rattle.gg_bits.specs.Limits.{cycle_limit, tray_rows};
 ghost use Rattle.gg_flat.specs.Line.{value_at};
 ghost use Rattle.gg_cut_plan.specs.declared.plan.Body.TheVariants.{Cut, Memory};
@@ -8,9 +8,10 @@ ghost use Rattle.gg_fame5.specs.inside.Shared as units;
 ghost use Rattle.gg_build.specs.inside.Alone.{IsCutAgain};
 ghost use Rattle.gg_build.specs.plan.Built.{IsUnitOf, IsMemoryOf};
 ghost use Rattle.gg_build.specs.inside.Begin.{starts_of};
-ghost use Rattle.gg_build.specs.inside.Bridges.{HasOwn, KeepsOthers};
+ghost use Rattle.gg_build.specs.inside.Bridges.{HasOwn, KeepsOthers, bridge_named};
 ghost use Rattle.gg_build.specs.inside.Groups.{group_at};
-ghost use Rattle.gg_build.specs.inside.Hosts.{CanAllBegin, CanBegin, IsUnitPart, IsMemoryPart, IsSourceAt, IsGroup, IsAlone, IsHost, IsHostOf, HasPorts, HaveBridges, AreAllApart, AreHosts, AreUnits, RunUnits, body_at};
+ghost use Rattle.gg_build.specs.inside.Hosts.{CanAllBegin, CanBegin, IsUnitPart, IsMemoryPart, IsSourceAt, IsGroup, IsAlone, IsHost, IsHostOf, HasPorts, HaveBridges, AreAllApart, AreHosts, AreOwnHosts, IsOwnHost, AreUnits, RunUnits, body_at, kind_of};
+ghost use Rattle.gg_build.specs.inside.Hosts.HostKind.{OfUnits, OfMemory, OfSource, OfTray};
 ghost use Rattle.gg_build.specs.inside.Node.{machines_of};
 
 use crate::begin::{Begin, own_state, part_of_state};
@@ -61,7 +62,8 @@ fn unit_host<'a, B: Bridge + Drop>(
     requires part { IsUnitPart part.now }
     requires begin { CanBegin (starts_of ratios.now begin.now) (Cut part.now) }
     requires cycle { begin.now.cycle ≤ cycle_limit }
-    ensures { IfOk result (λ node. IsHost (IsUnitOf (starts_of ratios.now begin.now (Cut part.now)) part.now) node) }
+    ensures host { IfOk result (λ node. IsHost (IsUnitOf (starts_of ratios.now begin.now (Cut part.now)) part.now) node) }
+    ensures kind { IfOk result (λ node. kind_of node ≡ OfUnits) }
 {
     match unit_of(alloc, part, ratios, begin) {
         Ok(unit) => Ok(Node::Unit(unit)),
@@ -84,6 +86,7 @@ fn shared_host<'a, B: Bridge + Drop>(
     requires cycle { begin.now.cycle ≤ cycle_limit }
     ensures units { IfOk result (λ node. RunUnits (starts_of ratios.now begin.now) machines.now group.now (machines_of node)) }
     ensures ports { IfOk result HasPorts }
+    ensures kind { IfOk result (λ node. kind_of node ≡ OfUnits) }
 {
     match units_of(alloc, part, machines, group, ratios, begin) {
         Ok(units) => Ok(Node::Shared(units)),
@@ -107,6 +110,7 @@ fn cut_host<'a, B: Bridge + Drop>(
     requires cycle { begin.now.cycle ≤ cycle_limit }
     ensures units { IfOk result (λ node. RunUnits (starts_of ratios.now begin.now) machines.now group.now (machines_of node)) }
     ensures ports { IfOk result HasPorts }
+    ensures kind { IfOk result (λ node. kind_of node ≡ OfUnits) }
 {
     if group.len() == 1 {
         let node = unit_host(alloc, part, ratios, begin)?;
@@ -151,7 +155,8 @@ fn memory_host<'a, B: Bridge + Drop>(
     requires part { IsMemoryPart part.now }
     requires begin { CanBegin (starts_of ratios.now begin.now) (Memory part.now) }
     requires cycle { begin.now.cycle ≤ cycle_limit }
-    ensures { IfOk result (λ node. IsHost (IsMemoryOf (starts_of ratios.now begin.now (Memory part.now)) part.now) node) }
+    ensures host { IfOk result (λ node. IsHost (IsMemoryOf (starts_of ratios.now begin.now (Memory part.now)) part.now) node) }
+    ensures kind { IfOk result (λ node. kind_of node ≡ OfMemory) }
 {
     let own = own_ratios(alloc, part, ratios)?;
     let whole = own_state(alloc, part, begin)?;
@@ -176,7 +181,8 @@ fn source_host<'a, B: Bridge + Drop>(
     cycle: u64,
 ) -> Result<Node<'a, B>, AllocError>
     requires { IsSourceAt trace.now.columns outs place }
-    ensures { IfOk result (λ node. IsHost (λ machine. machine ≡ source_machine (slice_index_or trace.now.columns place []) cycle (replicate outs false)) node) }
+    ensures host { IfOk result (λ node. IsHost (λ machine. machine ≡ source_machine (slice_index_or trace.now.columns place []) cycle (replicate outs false)) node) }
+    ensures kind { IfOk result (λ node. kind_of node ≡ OfSource) }
 {
     let column = trace.column(alloc, place as usize)?;
     let source = Source::from_cycle(alloc, column, outs as u32, cycle)?;
@@ -185,7 +191,8 @@ fn source_host<'a, B: Bridge + Drop>(
 
 // The host of a tray.
 fn tray_host<'a, B: Bridge + Drop>(alloc: Global, cycle: u64) -> Result<Node<'a, B>, AllocError>
-    ensures { IfOk result (λ node. IsHost (λ machine. machine ≡ tray_machine tray_rows cycle_limit cycle [] None) node) }
+    ensures host { IfOk result (λ node. IsHost (λ machine. machine ≡ tray_machine tray_rows cycle_limit cycle [] None) node) }
+    ensures kind { IfOk result (λ node. kind_of node ≡ OfTray) }
 {
     let tray = Tray::from_cycle(alloc, TRAY_ROWS, cycle)?;
     Ok(Node::Tray(tray))
@@ -205,6 +212,7 @@ fn host_of<'a, B: Bridge + Drop>(
     requires cycle { begin.now.cycle ≤ cycle_limit }
     requires told { HasOwn B.piece B.state bridges.old (body_at machines.now (value_at group.now 0)) }
     ensures host { IfOk result (λ node. IsHostOf (starts_of ratios.now begin.now) trace.now.columns machines.now group.now node) }
+    ensures own { IfOk result (IsOwnHost (λ name bridge. bridge_named bridges.old name ≡ Some bridge) (body_at machines.now (value_at group.now 0))) }
     ensures others { OnOk result (KeepsOthers (body_at machines.now (value_at group.now 0)) bridges.old bridges.new) }
 {
     let number = group[0] as usize;
@@ -258,7 +266,8 @@ pub(crate) fn hosts_of<'a, B: Bridge + Drop>(
     requires groups { (h : ℕ) → h < length members.now → IsGroup (starts_of ratios.now begin.now) trace.now.columns machines.now (group_at (map (λ list. list.items) members.now) h) }
     requires bridges { HaveBridges B.piece B.state bridges.old machines.now (map (λ list. list.items) members.now) 0 }
     requires apart { AreAllApart machines.now (map (λ list. list.items) members.now) }
-    ensures { IfOk result (λ nodes. AreHosts (starts_of ratios.now begin.now) trace.now.columns machines.now (map (λ list. list.items) members.now) (length members.now) nodes.items) }
+    ensures hosts { IfOk result (λ nodes. AreHosts (starts_of ratios.now begin.now) trace.now.columns machines.now (map (λ list. list.items) members.now) (length members.now) nodes.items) }
+    ensures own { IfOk result (λ nodes. AreOwnHosts bridges.old machines.now (map (λ list. list.items) members.now) (length members.now) nodes.items) }
 {
     let mut nodes = Vec::new(alloc);
     for host in 0..members.len() {

@@ -3,7 +3,7 @@
 //! A plan (gg_cut_plan) names machines and channels. A network (gg_net) has hosts with machines, and channels with queues.
 //! The crate promises:
 //!
-//! - [`build`] builds the network of a plan for an input trace (`IsOpeningOf` in `specs/Build`). It has each machine of
+//! - [`build`] builds the network of a plan for an input trace (`IsOpeningFrom` in `specs/Build`). It has each machine of
 //!   the plan before its first cycle, the plan's channels at the ins and outs where the machines list them, each queue
 //!   empty but for the token 0 of a piped channel, and as many cycles to do as the trace has rows. The hub and the units
 //!   run their parts of the circuit, and need exactly what they depend on. Each listed memory is a machine of its own,

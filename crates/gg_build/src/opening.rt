@@ -1,7 +1,6 @@
 //! `build`, `build_from`: the network of a plan.
 ghost use Rattle.std.specs.Prelude.{◌≡◌, IfOk};
-ghost use Rattle.gg_build.specs.inside.Build.{HasBridges, IsOpeningAt, IsStarted, IsToBegin, IsToRun, IsToStart};
-ghost use Rattle.gg_build.specs.Build.{IsOpeningOf};
+ghost use Rattle.gg_build.specs.inside.Build.{BeginsThere, BeginsWithZeros, HasBridges, IsToBegin, IsToRun};
 
 use crate::begin::Begin;
 use crate::node::Node;
@@ -13,33 +12,6 @@ use gg_cut_plan::Plan;
 use gg_net::{Net, Shape, Streams};
 use gg_trace::Trace;
 use std::alloc::{AllocError, Global};
-
-// The network of a plan before its first step, with machines and pipes that begin there.
-fn started<'a, B: Bridge + Send + Drop, Z: Streams>(
-    alloc: Global,
-    plan: &'a Plan,
-    trace: &Trace,
-    begin: &Begin,
-    bridges: Vec<(Name, B)>,
-) -> Result<Net<Node<'a, B>, Z>, AllocError>
-    requires run { IsToStart plan.now begin.now trace.now.columns trace.now.rows Z.flow }
-    requires bridges { HasBridges B.piece B.state plan.now bridges.items }
-    ensures { IfOk result (λ net. IsStarted plan.now begin.now trace.now.columns trace.now.rows net) }
-{
-    let Placement { hosts, stations } = placement_of(alloc, plan, trace, begin, bridges)?;
-    let wires = wires_of(alloc, plan, &begin.tokens)?;
-    let end = trace.rows();
-    let net = Net::new(
-        alloc,
-        hosts,
-        Shape {
-            stations,
-            wires,
-            end,
-        },
-    )?;
-    Ok(net)
-}
 
 /// The network of a plan before its first cycle. Its sources give the columns of a trace, and it has as many cycles to
 /// do as the trace has rows. Its hosts are those of [`placement_of`]: units that the plan puts onto one host share it, a thread each, and each
@@ -59,14 +31,14 @@ pub fn build<'a, B: Bridge + Send + Drop, Z: Streams>(
 ) -> Result<Net<Node<'a, B>, Z>, AllocError>
     requires run { IsToRun plan.now trace.now.columns trace.now.rows Z.flow }
     requires bridges { HasBridges B.piece B.state plan.now bridges.items }
-    ensures { IfOk result (λ net. IsOpeningOf plan.now trace.now.columns trace.now.rows net) }
+    ensures { IfOk result (λ net. BeginsWithZeros plan.now trace.now.columns trace.now.rows Z.flow net) }
 {
     let begin = Begin {
         cycle: 0,
         state: None,
         tokens: Vec::new(alloc),
     };
-    let net = started::<B, Z>(alloc, plan, trace, &begin, bridges)?;
+    let net = build_from::<B, Z>(alloc, plan, trace, &begin, bridges)?;
     Ok(net)
 }
 
@@ -87,8 +59,19 @@ pub fn build_from<'a, B: Bridge + Send + Drop, Z: Streams>(
 ) -> Result<Net<Node<'a, B>, Z>, AllocError>
     requires run { IsToBegin plan.now begin.now trace.now.columns trace.now.rows Z.flow }
     requires bridges { HasBridges B.piece B.state plan.now bridges.items }
-    ensures { IfOk result (λ net. IsOpeningAt plan.now begin.now trace.now.columns trace.now.rows net) }
+    ensures { IfOk result (λ net. BeginsThere plan.now begin.now trace.now.columns trace.now.rows Z.flow net) }
 {
-    let net = started::<B, Z>(alloc, plan, trace, begin, bridges)?;
+    let Placement { hosts, stations } = placement_of(alloc, plan, trace, begin, bridges)?;
+    let wires = wires_of(alloc, plan, &begin.tokens)?;
+    let end = trace.rows();
+    let net = Net::new(
+        alloc,
+        hosts,
+        Shape {
+            stations,
+            wires,
+            end,
+        },
+    )?;
     Ok(net)
 }

@@ -7,7 +7,7 @@ ghost use Rattle.gg_net.specs.inside.Net.{entry_of};
 ghost use Rattle.gg_build.specs.declared.node.Node as declared;
 ghost use Rattle.gg_build.specs.inside.Begin.{starts_of};
 ghost use Rattle.gg_build.specs.inside.Build.{HasBridges};
-ghost use Rattle.gg_build.specs.inside.Hosts.{CanBuildAll, HasPorts, HaveNames, IsStation, AreStations, IsPlacement};
+ghost use Rattle.gg_build.specs.inside.Hosts.{CanBuildAll, HasPorts, HaveNames, HaveOwnHosts, IsStation, AreStations, IsPlacement};
 ghost use Rattle.gg_build.specs.inside.Node.{machines_of};
 
 use crate::begin::Begin;
@@ -132,8 +132,8 @@ fn stations_of<B: Bridge + Drop>(
 }
 
 /// The hosts of a plan's machines, and the station of each machine there. Units that the plan puts onto one host share it, a thread each.
-/// Each other machine has a host of its own. The hosts are numbered in the order of their first machines. The plan's bridges are taken out
-/// of those that are handed in.
+/// Each other machine has a host of its own. The hosts are numbered in the order of their first machines. The host of a bridge's machine has the
+/// bridge that is handed in with its name.
 ///
 /// The networks of [`build`](crate::build) and [`build_from`](crate::build_from) have these hosts.
 ///
@@ -151,7 +151,8 @@ pub fn placement_of<'a, B: Bridge + Drop>(
     requires cycle { begin.now.cycle ≤ cycle_limit }
     requires bridges { HasBridges B.piece B.state plan.now bridges.items }
     requires names { HaveNames plan.now.machines }
-    ensures { IfOk result (λ placement. IsPlacement plan.now (starts_of plan.now.ratios begin.now) trace.now.columns placement.hosts.items placement.stations.items) }
+    ensures placed { IfOk result (λ placement. IsPlacement plan.now (starts_of plan.now.ratios begin.now) trace.now.columns placement.hosts.items placement.stations.items) }
+    ensures own { IfOk result (λ placement. HaveOwnHosts plan.now bridges.items placement.hosts.items placement.stations.items) }
 {
     let machines = plan.machines.as_slice();
     let groups = groups_of(alloc, machines)?;

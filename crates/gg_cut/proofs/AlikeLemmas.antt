@@ -1,5 +1,5 @@
 -- The machines of a plan while they are made, and machines of one host.
-use Rattle.std.proofs.Common.{◌≡◌, ◌≢◌, ℕ, ◌+◌, ◌<◌, List, [], ◌∷◌, ◌++◌, length, get_or, refl, sym, ◌∙◌, ap, subst, inl, inr, ◌⊎◌, None, below_more, arith}
+use Rattle.std.proofs.Common.{◌≡◌, ◌≢◌, ℕ, ◌+◌, ◌<◌, ◌^◌, List, [], ◌∷◌, ◌++◌, length, get_or, refl, sym, ◌∙◌, ap, subst, inl, inr, ◌⊎◌, None, below_more, arith}
 use Rattle.std.specs.Prelude.{Result, Ok, Err, IfOk}
 use Rattle.std.proofs.lemmas.Bool.{cases_eq}
 use Rattle.std.proofs.lemmas.List.{get_or_push, get_or_append_left, length_push}
@@ -11,13 +11,19 @@ use Rattle.gg_cut_plan.specs.declared.listed.Listed.{Listed}
 use Rattle.gg_cut_plan.specs.declared.plan.Body.{Body}
 use Rattle.gg_cut_plan.specs.declared.plan.Body.TheVariants.{Cut, Memory, Source, Tray, Bridge}
 use Rattle.gg_cut_plan.specs.declared.plan.Machine.{Machine}
+use Rattle.gg_cut_plan.specs.Bridges.{Models}
 use Rattle.gg_cut_plan.specs.Direct.{Hub}
 use Rattle.gg_cut_plan.specs.Alike.{IsAlike, AreAlike}
 use Rattle.gg_cut_plan.specs.Fault.{first_fault}
 use Rattle.gg_cut_plan.specs.Hosts.{leader}
-use Rattle.gg_cut_plan.specs.inside.Machines.{machine_count}
-use Rattle.gg_cut_plan.specs.Plan.{IsCutBody}
-use Rattle.gg_cut_plan.specs.inside.Plan.{IsCutMachine}
+use Rattle.gg_cut_plan.specs.Plan.{IsBody, IsMachine}
+use Rattle.gg_cut_plan.specs.Seated.{machine_end, plan_bridges}
+use Rattle.gg_flat_tree.specs.Tree.{path_at}
+use Rattle.gg_cut_parts.specs.declared.draft.Draft.{Draft}
+use Rattle.gg_cut_parts.specs.inside.Draft.{draft_hub}
+use Rattle.gg_cut_machines.specs.declared.places.Places.{Places}
+use Rattle.gg_cut_machines.specs.inside.Drafted.{AreDraftPlaces, draft_end}
+use Rattle.gg_cut.specs.inside.Drafted.{IsDraftBody, IsPlaced}
 use Rattle.gg_cut.specs.inside.Made.{HasAscending, IsTimedUnit, IsMadeBody, AreMachinesTo, AreMachines}
 use Rattle.gg_cut_machines.proofs.HostLemmas.{leader-below}
 use Rattle.gg_cut_machines.proofs.LeaderLemmas.{leaders-first, one-host}
@@ -66,15 +72,15 @@ bodies-on (Bridge a) two three x y = absurd x
 
 -- ---- one machine more
 
-module _ (design : Ordered) (request : Request) (listed : Listed) (hub : Hub) (clocking : Clocking) where
-  pub machines-none : (machines : List Machine) → machines ≡ [] → AreMachinesTo design request listed hub clocking 0 machines
+module _ (design : Ordered) (request : Request) (models : Models) (listed : Listed) (hub : Hub) (clocking : Clocking) where
+  pub machines-none : (machines : List Machine) → machines ≡ [] → AreMachinesTo design request models listed hub clocking 0 machines
   machines-none machines is = record { counted = ap length is; each = λ m any lt. absurd (omega (arith, lt)); ascend = λ m any lt. absurd (omega (arith, lt)); timed = λ m any lt. absurd (omega (arith, lt)); alike = λ m any other lt. absurd (omega (arith, lt)) }
 
-  pub machines-more : (old new : List Machine) (n : ℕ) (machine : Machine) (body : Body) → AreMachinesTo design request listed hub clocking n old → IsCutMachine design request listed hub n machine → machine.body ≡ body → IsMadeBody design request listed hub clocking old n body → new ≡ old ++ machine ∷ [] → AreMachinesTo design request listed hub clocking (n + 1) new
+  pub machines-more : (old new : List Machine) (n : ℕ) (machine : Machine) (body : Body) → AreMachinesTo design request models listed hub clocking n old → IsMachine design request models listed hub n machine → machine.body ≡ body → IsMadeBody design request models listed hub clocking old n body → new ≡ old ++ machine ∷ [] → AreMachinesTo design request models listed hub clocking (n + 1) new
   machines-more old new n machine body are here same made is =
       record {
         counted = ap length is ∙ length_push old machine ∙ ap (λ k. k + 1) are.counted;
-        each = λ m any lt. below_more (λ k. IsCutMachine design request listed hub k (get_or new k any)) n (λ k low. subst (IsCutMachine design request listed hub k) (sym (kept k any low)) (are.each k any low)) (subst (IsCutMachine design request listed hub n) (sym (last any)) here) m lt;
+        each = λ m any lt. below_more (λ k. IsMachine design request models listed hub k (get_or new k any)) n (λ k low. subst (IsMachine design request models listed hub k) (sym (kept k any low)) (are.each k any low)) (subst (IsMachine design request models listed hub n) (sym (last any)) here) m lt;
         ascend = λ m any lt. below_more (λ k. HasAscending (get_or new k any).body) n (λ k low. subst (λ (x : Machine). HasAscending x.body) (sym (kept k any low)) (are.ascend k any low)) (subst (λ (x : Machine). HasAscending x.body) (sym (last any)) (subst HasAscending (sym same) made.ascend)) m lt;
         timed = λ m any lt. below_more (λ k. IsTimedUnit listed clocking k (get_or new k any).body) n (λ k low. subst (λ (x : Machine). IsTimedUnit listed clocking k x.body) (sym (kept k any low)) (are.timed k any low)) (subst (λ (x : Machine). IsTimedUnit listed clocking n x.body) (sym (last any)) (subst (IsTimedUnit listed clocking n) (sym same) made.timed)) m lt;
         alike = λ m any other lt. below_more (λ k. leader request.units request.share k ≢ k → AreAlike (get_or new (leader request.units request.share k) any).body (get_or new k other).body) n (before any other) (at-last any other) m lt;
@@ -101,20 +107,20 @@ module _ (design : Ordered) (request : Request) (listed : Listed) (hub : Hub) (c
           (subst (AreAlike (get_or old (leader request.units request.share n) any).body) (sym same) (made.alike any differ)))
 
   -- what a machine does that is the first of its host
-  pub own-made : {E : Type 0} (machines : List Machine) (m : ℕ) (result : Result Body E) → leader request.units request.share m ≡ m → IfOk result (λ body. IsCutBody design listed hub m body) → IfOk result (λ body. HasAscending body) → IfOk result (λ body. IsTimedUnit listed clocking m body) → IfOk result (λ body. IsMadeBody design request listed hub clocking machines m body)
+  pub own-made : {E : Type 0} (machines : List Machine) (m : ℕ) (result : Result Body E) → leader request.units request.share m ≡ m → IfOk result (λ body. IsBody design request models listed hub m body) → IfOk result (λ body. HasAscending body) → IfOk result (λ body. IsTimedUnit listed clocking m body) → IfOk result (λ body. IsMadeBody design request models listed hub clocking machines m body)
   own-made machines m (Ok body) first is ascend timed = record { is = is; ascend = ascend; timed = timed; alike = λ any differ. absurd (differ first) }
   own-made machines m (Err cause) first is ascend timed = tt
 
   -- ---- machines of one host
 
-  module _ (none : first_fault design request ≡ None) (machines : List Machine) (are : AreMachinesTo design request listed hub clocking (machine_count design.circuit listed) machines) where
+  module _ (none : first_fault design request ≡ None) (machines : List Machine) (are : AreMachinesTo design request models listed hub clocking (machine_end (plan_bridges design.circuit design.tree request)) machines) where
     -- a machine's part is like that of the first machine of its host, or it is this machine
-    alike-first : (m l : ℕ) (any other : Machine) → m < machine_count design.circuit listed → leader request.units request.share m ≡ l → l ≢ m → AreAlike (get_or machines l any).body (get_or machines m other).body
+    alike-first : (m l : ℕ) (any other : Machine) → m < machine_end (plan_bridges design.circuit design.tree request) → leader request.units request.share m ≡ l → l ≢ m → AreAlike (get_or machines l any).body (get_or machines m other).body
     alike-first m l any other lt same differ =
         subst (λ k. AreAlike (get_or machines k any).body (get_or machines m other).body) same
         (are.alike m any other lt (λ e. differ (sym same ∙ e)))
 
-    alike-two : (m n l : ℕ) (any other : Machine) → m < machine_count design.circuit listed → n < machine_count design.circuit listed → m ≢ n → leader request.units request.share m ≡ l → leader request.units request.share n ≡ l → AreAlike (get_or machines m any).body (get_or machines n other).body
+    alike-two : (m n l : ℕ) (any other : Machine) → m < machine_end (plan_bridges design.circuit design.tree request) → n < machine_end (plan_bridges design.circuit design.tree request) → m ≢ n → leader request.units request.share m ≡ l → leader request.units request.share n ≡ l → AreAlike (get_or machines m any).body (get_or machines n other).body
     alike-two m n l any other lt lt' differ a b = by (cases_eq l m) (cases_eq l n)
       where
         by : (l ≡ m) ⊎ (l ≢ m) → (l ≡ n) ⊎ (l ≢ n) → AreAlike (get_or machines m any).body (get_or machines n other).body
@@ -127,15 +133,28 @@ module _ (design : Ordered) (request : Request) (listed : Listed) (hub : Hub) (c
             (bodies-back (get_or machines l any).body (get_or machines m any).body (alike-first m l any any lt a e))
             (alike-first n l any other lt' b f)
 
-    pub machines-made : AreMachines design request listed hub machines
-    machines-made = record {
+    pub machines-made : machine_end (plan_bridges design.circuit design.tree request) < 2 ^ 32 → AreMachines design request models listed hub machines
+    machines-made few = record {
       total = are.counted;
+      few = omega (arith, few, are.counted);
       each = λ m any lt. are.each m any (omega (arith, lt, are.counted));
       shared = λ m n any other lt lt' differ same.
-          let low : m < machine_count design.circuit listed = omega (arith, lt, are.counted) in
-          let low' : n < machine_count design.circuit listed = omega (arith, lt', are.counted) in
+          let low : m < machine_end (plan_bridges design.circuit design.tree request) = omega (arith, lt, are.counted) in
+          let low' : n < machine_end (plan_bridges design.circuit design.tree request) = omega (arith, lt', are.counted) in
           let one = are.each m any low in
           let two = are.each n other low' in
           let led = one-host request.units request.share m n (leaders-first design request none) (sym one.host ∙ same ∙ two.host) in
           alike-two m n (leader request.units request.share n) any other low low' differ led refl;
+    }
+
+-- a machine of a draft by its number and its body
+pub machine-placed : (draft : Draft) (places : Places) → AreDraftPlaces draft places → (m : ℕ) (body : Body) (machine : Machine) → m < draft_end draft → IsPlaced places m body machine → IsDraftBody draft m body
+    → IsMachine draft.design.now draft.request.now draft.models.now draft.listed (draft_hub draft) m machine
+machine-placed draft places are m body machine lt at is =
+    record {
+      name = at.name ∙ ap (λ l. path_at l m) are.names;
+      host = at.host ∙ are.hosts.host m lt;
+      body = subst (IsDraftBody draft m) (sym at.body) is;
+      ins = at.ins ∙ are.into.each m lt;
+      outs = at.outs ∙ are.from.each m lt;
     }

@@ -7,5 +7,4 @@ pub mod NeedLemmas
 pub mod ToldLemmas
 pub mod BodyLemmas
 pub mod MachineLemmas
-pub mod PlacedLemmas
 pub mod PlanLemmas

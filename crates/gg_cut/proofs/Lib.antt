@@ -15,5 +15,5 @@ pub mod WorkedDirect
 pub mod WorkedPipe
 pub mod WorkedCore
 pub mod WorkedBridge
-pub mod FirstLemmas
+pub mod BodyLemmas
 pub mod ExistenceLemmas

@@ -2,7 +2,7 @@
 --
 -- The circuit, its tree and the request are those of WorkedPair: the hub is machine 0, `a` and `b` are 1 and 2, the source of `x` is
 -- 3 and the tray of `q` is 4.
-use Rattle.std.proofs.Common.{◌≡◌, false, ℕ, ◌<◌, List, [], ◌∷◌, length, set, Ok, Err, refl, sym, ap, inl, inr, arith, lit<, lit≤}
+use Rattle.std.proofs.Common.{◌≡◌, false, ℕ, ◌<◌, ◌≤◌, List, [], ◌∷◌, length, set, Ok, Err, refl, sym, ap, inl, inr, arith, lit<, lit≤}
 use Rattle.std.specs.Prelude.{codes, slice_index_or}
 use Rattle.gg_bits.specs.declared.ops.Op2.TheVariants.{Xor}
 use Rattle.gg_bits.specs.declared.ops.OpN.TheVariants.{Bits, Shl}
@@ -323,6 +323,10 @@ out-taken is = let body = (is.machine 1 any_machine (lit< tt)).body in let count
 -- nor with the out-channel among the in-channels
 out-channel-taken : ¬ IsPlan design both_units [] 1 (record { machines = set machines 1 (record { name = codes "a"; host = 1; body = Cut given_p; ins = 1 ∷ 2 ∷ 3 ∷ []; outs = 3 ∷ 4 ∷ [] }); channels = channels 1; listed = listed; ratios = [] })
 out-channel-taken is = let count : 3 ≡ 2 = ap (λ (l : List ℕ). length l) (is.machine 1 any_machine (lit< tt)).ins in absurd (omega (arith, count))
+
+-- nor with a tray for its source
+source-keeps : ¬ IsPlan design both_units [] 1 (record { machines = set machines 3 (record { name = codes "in:x"; host = 3; body = Tray; ins = []; outs = 0 ∷ [] }); channels = channels 1; listed = listed; ratios = [] })
+source-keeps is = let least : 4 ≤ 3 = (is.machine 3 any_machine (lit< tt)).body.0 in absurd (omega (arith, least))
 
 -- ---- an entry that names nothing is reported before one that stands twice
 

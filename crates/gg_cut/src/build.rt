@@ -9,8 +9,8 @@ ghost use Rattle.gg_flat.specs.WellFormed.{IsWellFormed};
 ghost use Rattle.gg_cut_plan.specs.Fault.{IsSmall, Tells, first_fault_with};
 ghost use Rattle.gg_cut_plan.specs.Plan.{IsPlan};
 ghost use Rattle.gg_cut_parts.specs.inside.Draft.{IsDraft};
-ghost use Rattle.gg_cut.specs.inside.Drafted.{AreDraftChannels};
-ghost use Rattle.gg_cut_machines.specs.inside.Seating.{AreDraftSeats, ArePlannedMachines};
+ghost use Rattle.gg_cut.specs.inside.Drafted.{AreDraftChannels, AreDraftMachines};
+ghost use Rattle.gg_cut_machines.specs.inside.Drafted.{AreDraftSeats};
 ghost use Rattle.gg_cut.specs.Made.{IsCapacity};
 
 use crate::channels::channels_of;
@@ -19,7 +19,7 @@ use crate::machines::machines_of;
 use crate::needs::needs_table;
 use gg_bits::Items;
 use gg_clocks::Ratio;
-use gg_cut_machines::{Seats, seat_machines, seats_of};
+use gg_cut_machines::{Seats, seats_of};
 use gg_cut_parts::Draft;
 use gg_cut_plan::{Channel, CutFault, Machine, Models, Plan, Wire};
 use gg_cut_rules::clock_ratios;
@@ -65,7 +65,7 @@ fn plan_by(alloc: Global, draft: Draft) -> Result<Plan, AllocError>
 {
     let ratios = ratios_for(alloc, &draft)?;
     let seats = seats_of(alloc, &draft)?;
-    let machines = machines_for(alloc, &draft, &seats)?;
+    let machines = machines_of(alloc, &draft, &seats)?;
     let channels = channels_for(alloc, &draft, &seats, &machines)?;
     Ok(Plan {
         machines: Items::from(machines),
@@ -83,22 +83,6 @@ fn ratios_for(alloc: Global, draft: &Draft) -> Result<Vec<Ratio>, AllocError>
     clock_ratios(alloc, draft.design.tree(), draft.request.clocks.as_slice())
 }
 
-// The machines of the plan: the hub, the units and the listed memories are those of the draft.
-fn machines_for(alloc: Global, draft: &Draft, seats: &Seats) -> Result<Vec<Machine>, AllocError>
-    requires draft { IsDraft draft.now }
-    requires seats { AreDraftSeats draft.now seats.now }
-    ensures { IfOk result (λ machines. ArePlannedMachines draft.now machines.items) }
-{
-    let listed = &draft.listed;
-    // for the invariant alone
-    let _ = draft.design.piece();
-    let mut machines = machines_of(alloc, draft)?;
-    let source = 1 + listed.units.as_slice().len() + listed.memories.as_slice().len();
-    machines.truncate(source);
-    seat_machines(alloc, draft, seats, &mut machines)?;
-    Ok(machines)
-}
-
 // The channels between these machines.
 fn channels_for(
     alloc: Global,
@@ -108,7 +92,7 @@ fn channels_for(
 ) -> Result<Vec<Channel>, AllocError>
     requires draft { IsDraft draft.now }
     requires seats { AreDraftSeats draft.now seats.now }
-    requires machines { ArePlannedMachines draft.now machines.now }
+    requires machines { AreDraftMachines draft.now machines.now }
     ensures { IfOk result (λ channels. AreDraftChannels draft.now machines.now channels.items) }
 {
     // for the invariant alone

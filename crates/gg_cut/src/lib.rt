@@ -8,8 +8,8 @@
 //!   gg_cut_plan's `specs/Direct`;
 //! - `deps` returns the channels that a channel of a plan needs. It allocates nothing.
 //!
-//! `draft_of` (`judged`) judges the request and makes gg_cut_parts' `Draft`. The machines are made of it as if there were no bridges
-//! (`machines`); gg_cut_machines puts the bridges among them.
+//! `draft_of` (`judged`) judges the request and makes gg_cut_parts' `Draft`. gg_cut_machines numbers the machines, and each is made
+//! once (`machines`).
 //!
 //! The time that `cut` takes is that of gg_cut_split, gg_cut_routes, gg_part, gg_order and gg_cut_machines, and otherwise linear.
 //!
@@ -22,8 +22,8 @@ mod channels;
 mod existence;
 mod judged;
 mod machines;
+mod making;
 mod needs;
-mod shares;
 
 pub use build::{cut, deps};
 pub use existence::each_has_plan;

@@ -1,6 +1,6 @@
 -- The first machine of a host is its own first machine, and machines with one host have one first machine.
 use Rattle.std.proofs.Common.{◌≡◌, ℕ, zero, suc, ◌+◌, ◌-◌, ◌<◌, ◌≤◌, List, [], ◌∷◌, ◌++◌, length, get_or, Bool, true, false, true≢false, refl, sym, ◌∙◌, ap, subst, Some, None, inl, inr, ◌⊎◌, eq-eqb, arith}
-use Rattle.std.specs.Prelude.{Option, Contains, filter, find, not, ◌==◌, if◌then◌else◌}
+use Rattle.std.specs.Prelude.{Option, Contains, bytes_eq, filter, find, not, ◌==◌, if◌then◌else◌}
 use Rattle.std.specs.List.{list_any, range_with_len}
 use Rattle.std.proofs.lemmas.Bool.{cases_lt}
 use Rattle.std.proofs.lemmas.List.{length-append}
@@ -12,8 +12,9 @@ use Rattle.gg_cut_plan.specs.declared.fault.CutFault.TheVariants.{UnknownUnit, D
 use Rattle.gg_cut_plan.specs.Fault.{first_clash, same_path, repeated, unshared, entry_faults, first_fault}
 use Rattle.gg_partfile.specs.Size.{entries}
 use Rattle.gg_cut_plan.specs.Hosts.{machine_of, least_machine, group_of, leader_in, leader, host_of}
-use Rattle.gg_cut_plan.specs.Listed.{is_among}
+use Rattle.gg_cut_plan.specs.Listed.{is_among, place_of, unit_or_hub}
 use Rattle.gg_cut_plan.proofs.FindLemmas.{first_clash-append, none-at, none-map}
+use Rattle.gg_cut_plan.proofs.PathLemmas.{first_place-Some}
 use Rattle.gg_cut_plan.proofs.RangeLemmas.{filter-more}
 use Rattle.gg_cut_split.proofs.ClosedLemmas.FaultlessLemmas.{no-entry-fault}
 use Rattle.gg_cut_split.proofs.AgainLemmas.GroupLemmas.{HasUnit, has-unit, unit-tested, least-in, fresh, unit-one, either-none, entries-in, entry-known, find-some}
@@ -76,6 +77,27 @@ leader-twice units earlier (group ∷ share) m once known =
         ap (leader units (group ∷ share)) (beyond m f)
         ∙ beyond (leader units share m) (outside (leader units share m) (list_any (λ path. machine_of units path == leader units share m) group) refl (leader-listed units share m) f)
         ∙ later ∙ sym (beyond m f)
+
+-- ---- machines behind the units are the first of their hosts
+
+machine-few : (units : List (List ℕ)) (path : List ℕ) → machine_of units path ≤ length units
+machine-few units path = by (place_of units path) refl
+  where
+    by : (o : Option ℕ) → place_of units path ≡ o → unit_or_hub o ≤ length units
+    by None e = omega arith
+    by (Some u) e = let within = (first_place-Some (λ other. bytes_eq path other) units u e).within in omega (arith, within)
+
+pub leader-high : (units : List (List ℕ)) (share : List (List (List ℕ))) (m : ℕ) → length units < m → leader units share m ≡ m
+leader-high units share m lt = by (group_of units share m) refl
+  where
+    by : (found : Option (List (List ℕ))) → group_of units share m ≡ found → leader_in units m found ≡ m
+    by None e = refl
+    by (Some group) e =
+        let at = find-some (λ group. list_any (λ path. machine_of units path == m) group) share group e in
+        let has = has-unit units group m at.1 in
+        let few = machine-few units has.path in
+        let is = has.is in
+        absurd (omega (arith, lt, few, is))
 
 -- ---- a request without a fault
 

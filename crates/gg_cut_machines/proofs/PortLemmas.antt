@@ -1,9 +1,9 @@
 -- Tables by signals: which bridge has each port, and the places of ports.
 use Rattle.std.proofs.Common.{◌≡◌, ℕ, zero, suc, ◌+◌, ◌-◌, ◌<◌, ◌≤◌, List, [], ◌∷◌, length, map, get_or, take, drop, replicate, Bool, true, false, true≢false, refl, sym, ◌∙◌, ap, ap₂, Some, None, inl, inr, ◌⊎◌, arith}
-use Rattle.std.specs.Prelude.{All, Option, option_map, unwrap_or, bytes_eq, ◌||◌, if◌then◌else◌}
+use Rattle.std.specs.Prelude.{All, Option, option_map, unwrap_or, bytes_eq, flat_map, ◌||◌, if◌then◌else◌}
 use Rattle.std.proofs.lemmas.Bool.{cases_lt}
 use Rattle.std.proofs.lemmas.List.{get_or_past}
-use Rattle.std.proofs.lemmas.List.Folds.{list_any_at, list_any_more}
+use Rattle.std.proofs.lemmas.List.Folds.{length-flat_map-take, list_any_at, list_any_more}
 use Rattle.std.proofs.lemmas.Slice.Eq.{bytes_eq-Decides}
 use Rattle.gg_flat.specs.Line.{value_at}
 use Rattle.gg_flat_tree.specs.Tree.{path_at}
@@ -165,11 +165,8 @@ all-cleared paths count ports places new many are cleared s = by (cases_lt s cou
     by (inl lt) = cleared s lt ∙ ap (λ x. if is_among ports (path_at paths s) then 0 else x) (are s lt) ∙ place-cleared ports (path_at paths s)
     by (inr le) = get_or_past new s 0 (omega (arith, le, many))
 
--- the places of ports by equal lists
-pub places-at : (one other paths these : List (List ℕ)) (wires all : List Wire) (taken channels : List ℕ) → one ≡ other → paths ≡ these → wires ≡ all → taken ≡ channels
-    → map (λ c. port_place one (path_at paths (wire_at wires c).signal)) taken ≡ map (λ c. port_place other (path_at these (wire_at all c).signal)) channels
-places-at one other paths these wires all taken channels e p w t =
-    ap (λ (l : List (List ℕ)). map (λ c. port_place l (path_at paths (wire_at wires c).signal)) taken) e
-    ∙ ap (λ (l : List (List ℕ)). map (λ c. port_place other (path_at l (wire_at wires c).signal)) taken) p
-    ∙ ap (λ (l : List Wire). map (λ c. port_place other (path_at these (wire_at l c).signal)) taken) w
-    ∙ ap (λ (l : List ℕ). map (λ c. port_place other (path_at these (wire_at all c).signal)) l) t
+-- ---- one entry
+
+-- what one entry lists is among what all list
+pub part-few : (f : BridgeEntry → List (List ℕ)) (entries : List BridgeEntry) (k : ℕ) (any : BridgeEntry) → k < length entries → length (f (get_or entries k any)) ≤ length (flat_map f entries)
+part-few f entries k any lt = let most = length-flat_map-take f entries k any lt in omega (arith, most)

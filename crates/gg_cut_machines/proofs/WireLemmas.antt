@@ -10,6 +10,7 @@ use Rattle.gg_cut_plan.specs.declared.listed.Listed.{Listed}
 use Rattle.gg_cut_plan.specs.declared.wires.Wire.{Wire}
 use Rattle.gg_cut_plan.specs.Listed.{listed_of}
 use Rattle.gg_cut_plan.specs.inside.Machines.{machine_count}
+use Rattle.gg_cut_plan.specs.Machines.{first_source}
 use Rattle.gg_cut_plan.specs.Channels.{wire}
 use Rattle.gg_cut_plan.specs.Direct.{plan_hub, plan_routes}
 use Rattle.gg_cut_plan.specs.Plan.{wire_at}
@@ -18,6 +19,9 @@ use Rattle.gg_cut_reference.proofs.FittingLemmas.SeatedLemmas.{seat-known}
 use Rattle.gg_cut_machines.proofs.SeatLemmas.{plan-are, wires-as}
 use Rattle.gg_cut_routes.specs.inside.Routes.{AreRoutes}
 use Rattle.gg_flat.specs.Line.{value_at}
+use Rattle.gg_cut_parts.specs.declared.draft.Draft.{Draft}
+use Rattle.gg_cut_parts.specs.inside.Draft.{IsDraft}
+use Rattle.gg_cut_machines.specs.inside.Drafted.{draft_end}
 use Rattle.gg_cut_machines.specs.inside.Seats.{wire_by}
 
 module _ (design : Ordered) (request : Request) (listed : Listed) (same : listed ≡ listed_of design.tree request) (sound : AreRoutes design listed (plan_hub design.circuit design.tree request)) where
@@ -66,3 +70,9 @@ module _ (design : Ordered) (request : Request) (listed : Listed) (same : listed
     pub wires-planned : (given : List ℕ) (wires made : List Wire) → given ≡ numbers → wires ≡ routed → ((m : ℕ) → m < length numbers → value_at numbers m ≡ seat_of own_bridges m) → made ≡ map (wire_by given) wires → made ≡ plan_wires design.circuit design.tree request
     wires-planned given wires made same all each is =
         is ∙ ap (λ (l : List Wire). map (wire_by given) l) all ∙ ap (λ (l : List ℕ). map (wire_by l) routed) same ∙ wires-as own_bridges numbers routed each (ends-within numbers routed refl refl)
+
+-- ---- numbers
+
+-- a machine before the sources is one of the plan's
+pub low-within : (draft : Draft) → IsDraft draft → (m : ℕ) → m < first_source draft.listed → m < draft_end draft
+low-within draft is m low = let same = is.listed in omega (arith, low, ap (λ (l : Listed). length l.units) same, ap (λ (l : Listed). length l.memories) same)

@@ -1,16 +1,13 @@
-//! The machines of bridges.
-ghost use Rattle.std.specs.Prelude.{◌≡◌, ℕ, ◌<◌, ◌^◌, Some, [], slice_index_or, length, map, All, Contains, IfOk, OnOk};
+//! What bridges do.
+ghost use Rattle.std.specs.Prelude.{◌≡◌, ℕ, ◌<◌, ◌^◌, Some, length, map, All, Contains, IfOk, OnOk};
 ghost use Rattle.gg_flat.specs.Line.{value_at};
 ghost use Rattle.gg_cut_plan.specs.Models.{model_names};
 ghost use Rattle.gg_flat_tree.specs.Tree.{path_at};
 ghost use Rattle.gg_cut_plan.specs.Bridges.{model_named};
 ghost use Rattle.gg_cut_plan.specs.Plan.{port_place, wire_at};
-ghost use Rattle.gg_cut_plan.specs.Seated.{machine_end};
-ghost use Rattle.gg_cut_machines.specs.inside.Seating.{draft_bridges, IsSeating};
 ghost use Rattle.gg_cut_machines.specs.inside.Seats.{IsModelled};
 
 use crate::ports::put_ports;
-use crate::seating::{Seating, given, taken};
 use gg_bits::{Ids, Name};
 use gg_cut_parts::set_named;
 use gg_cut_plan::{BridgeBody, Models, Wire};
@@ -18,41 +15,37 @@ use gg_flat::Piece;
 use gg_partfile::BridgeEntry;
 use std::alloc::{AllocError, Global};
 
-// What the machine with this number does, if it is the bridge of this entry. `table` has 0 for each signal.
-//
-// # Errors
-//
-// Returns `AllocError` if an allocation fails.
-pub(crate) fn bridge_body(
+/// What the bridge of an entry does that takes and gives these channels. `table` has 0 for each signal, before and after.
+///
+/// # Errors
+///
+/// Returns `AllocError` if an allocation fails.
+pub fn bridge_body(
     alloc: Global,
-    seating: &Seating,
+    piece: &Piece,
+    models: &Models,
     entry: &BridgeEntry,
-    number: usize,
+    wires: &[Wire],
+    ins: &[u32],
+    outs: &[u32],
     table: &mut Vec<u32>,
 ) -> Result<BridgeBody, AllocError>
-    requires seating { IsSeating seating.now }
-    requires known { Contains (model_names seating.now.draft.now.models.now) entry.now.name }
+    requires known { Contains (model_names models.now) entry.now.name }
     requires sees { length entry.now.sees < 2 ^ 32 }
     requires drives { length entry.now.drives < 2 ^ 32 }
-    requires room { number < machine_end (draft_bridges seating.now.draft.now) }
-    requires count { length table.old.items ≡ length seating.now.draft.now.design.now.circuit.signals }
+    requires wires { All (λ w. w.signal < length piece.now.signals) wires.now }
+    requires ins { All (λ c. c < length wires.now) ins.now }
+    requires outs { All (λ c. c < length wires.now) outs.now }
+    requires count { length table.old.items ≡ length piece.now.signals }
     requires zero { (s : ℕ) → value_at table.old.items s ≡ 0 }
-    ensures body { IfOk result (λ body. IsModelled seating.now.draft.now.design.now.circuit.paths
-        seating.now.draft.now.models.now entry.now seating.now.seats.now.wires.items
-        (slice_index_or seating.now.places.now.sides.ins.items number [])
-        (slice_index_or seating.now.places.now.sides.outs.items number []) body) }
-    ensures count { OnOk result (length table.new.items ≡ length seating.now.draft.now.design.now.circuit.signals) }
+    ensures body { IfOk result (λ body. IsModelled piece.now.paths models.now entry.now wires.now ins.now outs.now body) }
+    ensures count { OnOk result (length table.new.items ≡ length piece.now.signals) }
     ensures zero { OnOk result ((s : ℕ) → value_at table.new.items s ≡ 0) }
 {
-    let draft = seating.draft;
-    let piece = draft.design.piece();
-    let wires: &[Wire] = &seating.seats.wires;
-    let ins = taken(seating.places, number);
-    let outs = given(seating.places, number);
     let seen = port_places(alloc, piece, entry.sees.as_slice(), wires, ins, table)?;
     let driven = port_places(alloc, piece, entry.drives.as_slice(), wires, outs, table)?;
     let name = entry.name.clone()?;
-    let model = model_copy(draft.models, &entry.name)?;
+    let model = model_copy(models, &entry.name)?;
     Ok(BridgeBody {
         name,
         model,

@@ -27,12 +27,12 @@ impl Drop for Hosts {
     }
 }
 
-/// The hosts of this many machines.
-///
-/// # Errors
-///
-/// Returns `AllocError` if an allocation fails.
-pub fn hosts_of(alloc: Global, draft: &Draft, count: usize) -> Result<Hosts, AllocError>
+// The hosts of this many machines.
+//
+// # Errors
+//
+// Returns `AllocError` if an allocation fails.
+pub(crate) fn hosts_of(alloc: Global, draft: &Draft, count: usize) -> Result<Hosts, AllocError>
     requires draft { IsDraft draft.now }
     requires units { length draft.now.request.now.units < count }
     requires few { count < 2 ^ 32 }

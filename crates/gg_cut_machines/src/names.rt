@@ -1,43 +1,157 @@
 //! The names of the machines.
-ghost use Rattle.std.specs.Prelude.{◌≡◌, ◌<◌, ◌≤◌, ◌-◌, length, codes, ◌++◌, IfOk};
+ghost use Rattle.std.specs.Prelude.{◌≡◌, ◌<◌, ◌≤◌, [], ◌∷◌, if◌then◌else◌, length, map, filter, codes, ◌++◌, IfOk, OnOk};
+ghost use Rattle.std.specs.List.{range_with_len};
 ghost use Rattle.gg_flat.specs.Line.{value_at};
 ghost use Rattle.gg_flat_tree.specs.Tree.{path_at};
-ghost use Rattle.gg_cut_plan.specs.inside.Machines.{machine_count};
-ghost use Rattle.gg_cut_plan.specs.inside.Plan.{cut_names};
+ghost use Rattle.gg_cut_plan.specs.Plan.{machine_names};
 ghost use Rattle.gg_cut_parts.specs.inside.Draft.{IsDraft};
+ghost use Rattle.gg_cut_machines.specs.inside.Drafted.{AreDraftTakers};
+ghost use Rattle.gg_cut_machines.specs.inside.Seats.{is_open};
 
+use crate::seats::Takers;
 use gg_bits::Name;
 use gg_cut_parts::{Draft, signal_name};
-use gg_cut_plan::Role;
 use gg_flat::Piece;
 use gg_flat_tree::Tree;
+use gg_partfile::BridgeEntry;
 use std::alloc::{AllocError, Global};
 
-/// The name of a machine of a draft, by its number, as if there were no bridges.
-///
-/// # Errors
-///
-/// Returns `AllocError` if an allocation fails.
-pub fn machine_name(alloc: Global, draft: &Draft, number: usize) -> Result<Name, AllocError>
+// The names of the machines of a plan, by their numbers.
+//
+// # Errors
+//
+// Returns `AllocError` if an allocation fails.
+pub(crate) fn machine_names(
+    alloc: Global,
+    draft: &Draft,
+    takers: &Takers,
+) -> Result<Vec<Name>, AllocError>
     requires draft { IsDraft draft.now }
-    requires known { number < machine_count draft.now.design.now.circuit draft.now.listed }
-    ensures { IfOk result (λ name. name ≡ path_at (cut_names draft.now.design.now draft.now.request.now draft.now.listed) number) }
+    requires takers { AreDraftTakers draft.now takers.now }
+    ensures { IfOk result (λ names. names.items ≡ machine_names draft.now.design.now draft.now.request.now draft.now.listed) }
 {
     let piece = draft.design.piece();
     let tree = draft.design.tree();
-    match draft.numbering().role(number) {
-        Role::Hub => Name::from_str(alloc, "hub:"),
-        Role::Unit(place) => draft.request.units.as_slice()[place as usize].clone(),
-        Role::Memory(place) => {
-            memory_name(
-                alloc,
-                tree,
-                draft.listed.memories.as_slice()[place as usize],
-            )
-        }
-        Role::Source(place) => port_name(alloc, "in:", piece, piece.ins()[place as usize]),
-        Role::Tray(place) => tray_name(alloc, piece, tree, place as usize),
+    let units = draft.request.units.as_slice();
+    let memories = draft.listed.memories.as_slice();
+    let entries = draft.request.bridges.as_slice();
+    let ins = piece.ins();
+    let outs = piece.outs();
+    let outputs = outs.len().saturating_sub(tree.stops().len());
+    let hub = Name::from_str(alloc, "hub:")?;
+    let mut names = Vec::new(alloc);
+    names.push(hub)?;
+    push_units(units, &mut names)?;
+    push_memories(alloc, tree, memories, &mut names)?;
+    push_open(alloc, "in:", piece, ins, &takers.drivers, &mut names)?;
+    push_open(
+        alloc,
+        "out:",
+        piece,
+        &outs[..outputs],
+        &takers.viewers,
+        &mut names,
+    )?;
+    push_stops(alloc, piece, &outs[outputs..], &mut names)?;
+    push_bridges(alloc, entries, &mut names)?;
+    Ok(names)
+}
+
+// Adds the names of units, which are their paths.
+fn push_units(units: &[Name], names: &mut Vec<Name>) -> Result<(), AllocError>
+    ensures { OnOk result (names.new.items ≡ names.old.items ++ units.now) }
+{
+    for unit in units {
+        names.push(unit.clone()?)?;
     }
+    Ok(())
+}
+
+// Adds the names of listed memories, by their places in the tree.
+fn push_memories(
+    alloc: Global,
+    tree: &Tree,
+    memories: &[u32],
+    names: &mut Vec<Name>,
+) -> Result<(), AllocError>
+    ensures { OnOk result (names.new.items ≡ names.old.items ++ map (path_at tree.now.memory_paths) memories.now) }
+{
+    for place in memories {
+        names.push(memory_name(alloc, tree, *place)?)?;
+    }
+    Ok(())
+}
+
+// Adds a name for each of these signals that no bridge has, by a table of the bridges at their places.
+fn push_open(
+    alloc: Global,
+    word: &str,
+    piece: &Piece,
+    signals: &[u32],
+    takers: &[u32],
+    names: &mut Vec<Name>,
+) -> Result<(), AllocError>
+    requires { length signals.now ≤ length takers.now }
+    ensures { OnOk result (names.new.items ≡ names.old.items
+        ++ map (λ p. word.now ++ path_at piece.now.paths (value_at signals.now p)) (filter (is_open takers.now) (range_with_len 0 (length signals.now)))) }
+{
+    for place in 0..signals.len() {
+        push_if(
+            alloc,
+            word,
+            piece,
+            signals[place],
+            takers[place] == 0,
+            names,
+        )?;
+    }
+    Ok(())
+}
+
+// Adds the name of a signal's port, if it is chosen.
+fn push_if(
+    alloc: Global,
+    word: &str,
+    piece: &Piece,
+    signal: u32,
+    chosen: bool,
+    names: &mut Vec<Name>,
+) -> Result<(), AllocError>
+    ensures { OnOk result (names.new.items ≡ names.old.items ++ (if chosen then (word.now ++ path_at piece.now.paths signal) ∷ [] else [])) }
+{
+    if chosen {
+        names.push(port_name(alloc, word, piece, signal)?)?;
+    }
+    Ok(())
+}
+
+// Adds the names of stops.
+fn push_stops(
+    alloc: Global,
+    piece: &Piece,
+    stops: &[u32],
+    names: &mut Vec<Name>,
+) -> Result<(), AllocError>
+    ensures { OnOk result (names.new.items ≡ names.old.items ++ map (λ s. codes "halt:" ++ path_at piece.now.paths s) stops.now) }
+{
+    for stop in stops {
+        names.push(port_name(alloc, "halt:", piece, *stop)?)?;
+    }
+    Ok(())
+}
+
+// Adds the names of bridges.
+fn push_bridges(
+    alloc: Global,
+    entries: &[BridgeEntry],
+    names: &mut Vec<Name>,
+) -> Result<(), AllocError>
+    ensures { OnOk result (names.new.items ≡ names.old.items ++ map (λ entry. codes "bridge:" ++ entry.name) entries.now) }
+{
+    for entry in entries {
+        names.push(worded(alloc, "bridge:", &entry.name)?)?;
+    }
+    Ok(())
 }
 
 // The path of a memory, by its place in the tree; the empty path if there is none.
@@ -50,39 +164,8 @@ fn memory_name(alloc: Global, tree: &Tree, place: u32) -> Result<Name, AllocErro
     }
 }
 
-// The name of the tray of the out-signal at a place. The stops are behind the outputs.
-//
-// # Errors
-//
-// Returns `AllocError` if an allocation fails.
-pub(crate) fn tray_name(
-    alloc: Global,
-    piece: &Piece,
-    tree: &Tree,
-    place: usize,
-) -> Result<Name, AllocError>
-    requires { place < length piece.now.outs }
-    ensures { IfOk result (λ name.
-        (place < length piece.now.outs - length tree.now.stops → name ≡ codes "out:" ++ path_at piece.now.paths (value_at piece.now.outs place))
-        × (length piece.now.outs - length tree.now.stops ≤ place → name ≡ codes "halt:" ++ path_at piece.now.paths (value_at piece.now.outs place))) }
-{
-    let outs = piece.outs();
-    let outputs = outs.len().saturating_sub(tree.stops().len());
-    let word = if place < outputs { "out:" } else { "halt:" };
-    port_name(alloc, word, piece, outs[place])
-}
-
 // A word followed by the path of a signal.
-//
-// # Errors
-//
-// Returns `AllocError` if an allocation fails.
-pub(crate) fn port_name(
-    alloc: Global,
-    word: &str,
-    piece: &Piece,
-    signal: u32,
-) -> Result<Name, AllocError>
+fn port_name(alloc: Global, word: &str, piece: &Piece, signal: u32) -> Result<Name, AllocError>
     ensures { IfOk result (λ name. name ≡ word.now ++ path_at piece.now.paths signal) }
 {
     let path = signal_name(alloc, piece, signal)?;
@@ -90,11 +173,7 @@ pub(crate) fn port_name(
 }
 
 // A word followed by a name.
-//
-// # Errors
-//
-// Returns `AllocError` if an allocation fails.
-pub(crate) fn worded(alloc: Global, word: &str, name: &Name) -> Result<Name, AllocError>
+fn worded(alloc: Global, word: &str, name: &Name) -> Result<Name, AllocError>
     ensures { IfOk result (λ worded. worded ≡ word.now ++ name.now) }
 {
     let mut text = String::from_str(alloc, word)?;

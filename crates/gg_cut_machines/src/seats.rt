@@ -1,11 +1,11 @@
-//! The numbers of the machines of a plan with bridges, and the channels between them.
+//! The numbers of the machines of a plan, and the channels between them.
 ghost use Rattle.std.specs.Prelude.{◌≡◌, ℕ, ◌+◌, ◌-◌, ◌<◌, ◌≤◌, ◌^◌, ◌++◌, ◌==◌, if◌then◌else◌, length, map, All, IfOk, OnOk};
 ghost use Rattle.std.specs.List.{range_with_len};
 ghost use Rattle.gg_flat.specs.Line.{value_at};
 ghost use Rattle.gg_cut_plan.specs.Seated.{machine_end, seat_of};
 ghost use Rattle.gg_bits.specs.Lists.{count_below};
 ghost use Rattle.gg_cut_parts.specs.inside.Draft.{IsDraft};
-ghost use Rattle.gg_cut_machines.specs.inside.Seating.{draft_bridges, AreDraftSeats, AreDraftTakers, AreStarts};
+ghost use Rattle.gg_cut_machines.specs.inside.Drafted.{draft_bridges, AreDraftSeats, AreDraftTakers, AreStarts};
 ghost use Rattle.gg_cut_machines.specs.inside.Seats.{is_open, seat_by, wire_by};
 
 use crate::hosts::one_if;
@@ -34,10 +34,10 @@ impl Drop for Takers {
 pub struct Seats {
     /// Which bridge has each port.
     pub takers: Takers,
-    /// The number of each machine of the cut without bridges.
-    pub numbers: Vec<u32>,
-    /// The channels between machines with these numbers.
+    /// The channels between the machines.
     pub wires: Vec<Wire>,
+    /// Where the sources, the trays and the bridges begin.
+    pub starts: Starts,
     /// How many machines the plan has.
     pub end: usize,
 }
@@ -46,12 +46,11 @@ impl Drop for Seats {
     fn drop(self) {
         let Self {
             takers,
-            numbers,
             wires,
+            starts: _,
             end: _,
         } = self;
         drop(takers);
-        drop(numbers);
         drop(wires);
     }
 }
@@ -75,8 +74,8 @@ pub fn seats_of(alloc: Global, draft: &Draft) -> Result<Seats, AllocError>
     let wires = seat_wires(alloc, draft.wires(), &numbers)?;
     Ok(Seats {
         takers,
-        numbers,
         wires,
+        starts,
         end: starts.bridge + bridges,
     })
 }
@@ -96,12 +95,12 @@ fn port_takers(alloc: Global, draft: &Draft) -> Result<Takers, AllocError>
     Ok(Takers { drivers, viewers })
 }
 
-// The numbers of the first source, the first tray and the first bridge.
+/// The numbers of the first source, the first tray and the first bridge.
 #[derive(Clone, Copy)]
-struct Starts {
-    source: usize,
-    tray: usize,
-    bridge: usize,
+pub struct Starts {
+    pub source: usize,
+    pub tray: usize,
+    pub bridge: usize,
 }
 
 // Where the sources, the trays and the bridges of a draft begin.

@@ -39,10 +39,10 @@ module _ (machine : MachineDraft) (known : IsMachineDraft machine) (sound : IsDe
   n = machine.number
 
   abbrev signals : List ℕ
-  signals = machine.share.now.globals
+  signals = machine.globals.now
 
   abbrev banks : List ℕ
-  banks = machine.share.now.memories
+  banks = machine.memories.now
 
   abbrev to : ℕ → ℕ
   to = again_at design listed m n

@@ -25,8 +25,7 @@ module _ (draft : Draft) (is : IsDraft draft) where
 
 -- what a unit of a draft has
 pub draft-share : (machine : MachineDraft) → IsMachineDraft machine → IsUnitRouted machine.draft.now.design.now machine.draft.now.listed (draft_hub machine.draft.now) machine.number → machine.number < first_source machine.draft.now.listed
-    → IsUnitShare machine.draft.now.design.now machine.draft.now.listed machine.number machine.share.now.globals machine.share.now.memories
+    → IsUnitShare machine.draft.now.design.now machine.draft.now.listed machine.number machine.globals.now machine.memories.now
 draft-share machine is routed low =
     let draft = machine.draft.now in
-    let share = machine.share.now in
-    unit-share draft.design.now draft.listed (draft_hub draft) machine.number share.ins share.outs share.globals share.memories routed low is.share
+    unit-share draft.design.now draft.listed (draft_hub draft) machine.number machine.ins.now machine.outs.now machine.globals.now machine.memories.now routed low is.share

@@ -15,7 +15,6 @@ use Rattle.gg_cut_plan.specs.declared.listed.Listed.{Listed}
 use Rattle.gg_cut_plan.specs.declared.wires.Wire.{Wire}
 use Rattle.gg_cut_plan.specs.Plan.{wire_at, channels_to, channels_from, signals_of, givens_of, MakesBy, Takes, HasMemory, IsCutPart, machine_clocks}
 use Rattle.gg_cut_plan.proofs.RangeLemmas.{filter-below}
-use Rattle.gg_cut_split.specs.declared.share.Share.{Share}
 use Rattle.gg_cut_plan.specs.Direct.{Hub, routes}
 use Rattle.gg_cut_routes.specs.inside.Share.{IsPlanShare}
 
@@ -29,22 +28,22 @@ from-below wires m channels is k d lt = let below = filter-below (λ c. (wire_at
 
 -- ---- parts
 
--- the part that a machine's share makes is the part that its plan asks for
-pub cut-part : (design : Ordered) (listed : Listed) (hub : Hub) (wires : List Wire) → wires ≡ routes hub → (m : ℕ) (share : Share) (whole : FlatCircuit) (part : Part) → IsPlanShare design listed hub m share.ins share.outs share.globals share.memories → whole ≡ design.circuit → IsPart whole part.piece part.globals part.held part.memories part.clocks → part.clocks ≡ machine_clocks design.tree listed m → part.globals ≡ share.globals → part.memories ≡ share.memories
-    → map (value_at part.globals) part.piece.ins ≡ signals_of wires share.ins → map (value_at part.globals) part.piece.outs ≡ givens_of wires share.outs → AreHeld whole part.globals (signals_of wires share.ins) part.held → IsOrder design.circuit design.order
+-- the part that is made of what a machine has is the part that its plan asks for
+pub cut-part : (design : Ordered) (listed : Listed) (hub : Hub) (wires : List Wire) → wires ≡ routes hub → (m : ℕ) (taken given chosen banks : List ℕ) (whole : FlatCircuit) (part : Part) → IsPlanShare design listed hub m taken given chosen banks → whole ≡ design.circuit → IsPart whole part.piece part.globals part.held part.memories part.clocks → part.clocks ≡ machine_clocks design.tree listed m → part.globals ≡ chosen → part.memories ≡ banks
+    → map (value_at part.globals) part.piece.ins ≡ signals_of wires taken → map (value_at part.globals) part.piece.outs ≡ givens_of wires given → AreHeld whole part.globals (signals_of wires taken) part.held → IsOrder design.circuit design.order
     → ((whole part : FlatCircuit) (globals held memories order : List ℕ) (clocks : List (Option ℕ)) → IsPart whole part globals held memories clocks → IsOrder whole order → IsAlong order globals → IsInOrder part)
     → IsCutPart design listed hub m part
-cut-part design listed hub wires all m share whole part own w is follows g ms i o held ordered law =
+cut-part design listed hub wires all m taken given chosen banks whole part own w is follows g ms i o held ordered law =
     let here = subst (λ (k : FlatCircuit). IsPart k part.piece part.globals part.held part.memories part.clocks) w is in
     record {
       is = here;
       clocks = follows;
       signals = λ s. subst (λ (l : List ℕ). Contains l s ↔ (MakesBy hub m s ⊎ Takes (routes hub) m s)) (sym g) (own.signals s);
-      ins = i ∙ ap (λ (l : List Wire). signals_of l share.ins) all ∙ ap (signals_of (routes hub)) own.takes;
-      outs = o ∙ ap (λ (l : List Wire). givens_of l share.outs) all ∙ ap (givens_of (routes hub)) own.gives;
+      ins = i ∙ ap (λ (l : List Wire). signals_of l taken) all ∙ ap (signals_of (routes hub)) own.takes;
+      outs = o ∙ ap (λ (l : List Wire). givens_of l given) all ∙ ap (givens_of (routes hub)) own.gives;
       held =
           subst (λ (k : FlatCircuit). AreHeld k part.globals (signals_of (routes hub) (channels_to (routes hub) m)) part.held) w
-          (subst (λ (l : List ℕ). AreHeld whole part.globals (signals_of (routes hub) l) part.held) own.takes (subst (λ (l : List Wire). AreHeld whole part.globals (signals_of l share.ins) part.held) all held));
+          (subst (λ (l : List ℕ). AreHeld whole part.globals (signals_of (routes hub) l) part.held) own.takes (subst (λ (l : List Wire). AreHeld whole part.globals (signals_of l taken) part.held) all held));
       memories = λ k. subst (λ (l : List ℕ). Contains l k ↔ HasMemory design.tree listed m k) (sym ms) (own.banks k);
       ordered = law design.circuit part.piece part.globals part.held part.memories design.order part.clocks here ordered (subst (λ (l : List ℕ). IsAlong design.order l) (sym g) own.along);
     }

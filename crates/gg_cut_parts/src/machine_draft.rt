@@ -1,14 +1,19 @@
 //! `MachineDraft`: a machine in the making.
 use crate::Domains;
 use crate::draft::Draft;
-use gg_cut_split::Share;
 
-/// A machine in the making: the draft, what clocks its machines follow, the machine's number, and what it has by the routed
-/// channels.
+/// A machine in the making that has a part: the draft, what clocks its machines follow, the machine's number, and what it has by
+/// the routed channels.
 #[derive(Clone, Copy)]
 pub struct MachineDraft<'s, 'a> {
     pub draft: &'s Draft<'a>,
     pub domains: &'s Domains,
-    pub share: &'s Share,
+    /// The channels that it takes, and those that it gives, ascending.
+    pub ins: &'s [u32],
+    pub outs: &'s [u32],
+    /// The signals of the circuit that it makes or takes, in the order of evaluation.
+    pub globals: &'s [u32],
+    /// The memories of the circuit that belong to it, ascending.
+    pub memories: &'s [u32],
     pub number: usize,
 }

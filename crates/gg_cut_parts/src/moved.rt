@@ -44,7 +44,6 @@ pub fn moved_part(
         (draft_hub machine.now.draft.now) machine.now.domains.now.units machine.now.number leader.now part) }
 {
     let draft = machine.draft;
-    let share = machine.share;
     let whole = draft.design.piece();
     // for the invariant alone
     let _ = whole.signal_count();
@@ -53,9 +52,9 @@ pub fn moved_part(
     let to = first_signal(draft, machine.number);
     let globals = moved_numbers(alloc, leader.globals.as_slice(), from, to)?;
     let held = held_again(alloc, whole, leader, &globals)?;
-    let outs = givens(alloc, draft.wires(), share.outs.as_slice())?;
+    let outs = givens(alloc, draft.wires(), machine.outs)?;
     let piece = moved_piece(alloc, whole, &leader.piece, &globals, &outs)?;
-    let memories = copied(alloc, share.memories.as_slice())?;
+    let memories = copied(alloc, machine.memories)?;
     let own = machine.domains.clocks(&draft.listed, machine.number);
     let clocks = Vec::from_slice(alloc, own)?;
     Ok(Part {

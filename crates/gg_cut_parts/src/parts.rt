@@ -1,6 +1,5 @@
 //! The parts of the circuit that the machines run.
 ghost use Rattle.std.specs.Prelude.{◌≡◌, ◌<◌, length, All, AllPairs, IfOk};
-ghost use Rattle.gg_cut_plan.specs.Machines.{first_source};
 ghost use Rattle.gg_cut_plan.specs.Plan.{signals_of, givens_of};
 ghost use Rattle.gg_cut_parts.specs.inside.Draft.{IsMachineDraft, IsDraftPart, IsUnitTimed};
 
@@ -9,34 +8,32 @@ use gg_cut_plan::Wire;
 use gg_part::{Part, part_in_order, part_of};
 use std::alloc::{AllocError, Global};
 
-/// The part of a machine that has one.
+/// The part of a machine.
 ///
 /// # Errors
 ///
 /// Returns `AllocError` if an allocation fails.
 pub fn cut_part(alloc: Global, machine: &MachineDraft) -> Result<Part, AllocError>
     requires machine { IsMachineDraft machine.now }
-    requires inside { machine.now.number < first_source machine.now.draft.now.listed }
     ensures part { IfOk result (λ part. IsDraftPart machine.now.draft.now machine.now.number part) }
     ensures ascend { IfOk result (λ part. AllPairs (λ a b. a < b) part.memories) }
     ensures timed { IfOk result (λ part. IsUnitTimed machine.now part) }
 {
     let draft = machine.draft;
-    let share = machine.share;
     // for the invariant alone
     let _ = draft.design.order();
     part_in_order();
-    let ins = signals(alloc, draft.wires(), share.ins.as_slice())?;
-    let outs = givens(alloc, draft.wires(), share.outs.as_slice())?;
+    let ins = signals(alloc, draft.wires(), machine.ins)?;
+    let outs = givens(alloc, draft.wires(), machine.outs)?;
     let part = part_of(
         alloc,
         draft.design.piece(),
         machine.domains.clocks(&draft.listed, machine.number),
         machine.domains.clocking(&draft.listed, machine.number),
-        share.globals.as_slice(),
+        machine.globals,
         &ins,
         &outs,
-        share.memories.as_slice(),
+        machine.memories,
     )?;
     Ok(part)
 }

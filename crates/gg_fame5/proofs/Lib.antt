@@ -7,3 +7,4 @@ pub mod SharedLemmas
 pub mod WorkedPair
 pub mod WorkedMemories
 pub mod WorkedThreads
+mod WorkedToggle

@@ -5,7 +5,7 @@
 --      3  output o : UInt<0>
 --
 -- It has no top (F1), `o` has no connection (F5), and a width of 0 (F10).
-use Rattle.std.proofs.Common.{◌≡◌, [], ◌∷◌, codes, refl, inl, inr}
+use Rattle.std.proofs.Common.{◌≡◌, ℕ, List, [], ◌∷◌, codes, refl, inl, inr}
 use Rattle.gg_ast.specs.declared.module.Direction.TheVariants.{Output}
 use Rattle.gg_ast.specs.declared.module.GroundType.TheVariants.{UInt}
 use Rattle.gg_ast.specs.declared.module.Port.{Port}
@@ -13,7 +13,9 @@ use Rattle.gg_ast.specs.Tree.{ModuleTree, CircuitTree}
 use Rattle.gg_shape.specs.declared.fault.Fault.{Fault}
 use Rattle.gg_shape.specs.declared.fault.Fault.TheVariants.{MissingTop, Unconnected, WrongWidth, ModuleRing, OverLimit, Loop}
 use Rattle.gg_shape.specs.declared.fault.Limit.TheVariants.{Depth}
+use Rattle.gg_read.specs.declared.text.ReadFault.TheVariants as unread
 use Rattle.gg_front.specs.inside.Agreement.{AreAlike, Agree}
+use Rattle.gg_front.specs.inside.Fault.{IsUnread}
 use Rattle.gg_front.specs.Fault.{IsFirstFault, OfShape}
 use Rattle.gg_front.specs.declared.fault.FrontFault.TheVariants as front
 use Rattle.gg_front.proofs.AgreementLemmas.{first-alike}
@@ -52,3 +54,7 @@ loop-is-no-count : Agree (front.Fault (Loop [])) (front.Fault (OverLimit Depth 3
 loop-is-no-count (inl is) = absurd (cc)
 loop-is-no-count (inr (inl r)) = let e : Loop [] ≡ ModuleRing r.modules = r.one_is in absurd (cc)
 loop-is-no-count (inr (inr l)) = let e : OverLimit Depth 33 ≡ Loop l.others = l.other_is in absurd (cc)
+
+-- a want of memory isn't told as a fault of reading
+not-memory : (bytes : List ℕ) → IsUnread bytes (front.Read unread.NoMemory) → ⊥
+not-memory bytes told = told.1 refl

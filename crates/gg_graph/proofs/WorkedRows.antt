@@ -1,5 +1,5 @@
 -- Small graphs, with their orders and rings, and lists that are neither.
-use Rattle.std.proofs.Common.{◌≡◌, ◌≢◌, ℕ, zero, suc, ◌<◌, List, [], ◌∷◌, length, get_or, take, eqb, eq-eqb, false, true≢false, refl, sym, ◌∙◌, subst, arith, lit<}
+use Rattle.std.proofs.Common.{◌≡◌, ◌≢◌, ℕ, zero, suc, ◌<◌, List, [], ◌∷◌, length, get_or, take, drop, eqb, eq-eqb, false, true≢false, refl, sym, ap, ◌∙◌, subst, arith, lit<}
 use Rattle.std.specs.Prelude.{Contains, AllPairs}
 use Rattle.std.specs.List.{IsDistinct, AllByRecursion}
 use Rattle.std.proofs.lemmas.Bool.Decides.{Decides-eqb}
@@ -7,6 +7,7 @@ use Rattle.std.proofs.lemmas.Map.Made.{AllPairs-from_IsDistinct}
 use Rattle.gg_graph.specs.Graph.{node_at, IsRing}
 use Rattle.gg_graph.specs.inside.Graph.{IsOrderOf}
 use Rattle.gg_graph.specs.inside.Lists.{HasTarget}
+use Rattle.gg_graph.specs.inside.Walk.{IsEndFrom}
 use Rattle.gg_graph.proofs.RingLemmas.{no_ring}
 
 -- a fact that is shown at each place of a list of one, two, four or five elements holds at every place below its length
@@ -134,3 +135,25 @@ too_long r = r.once 0 2 0 (lit< tt) (lit< tt) refl
 -- no node at all
 no_node : ¬ IsRing (HasTarget pair) 2 []
 no_node r = r.round
+
+-- a graph whose only node is its own target has no order
+no_order-alone : (order : List ℕ) → ¬ IsOrderOf (HasTarget alone) 1 order
+no_order-alone order o = no_ring (HasTarget alone) 1 order (0 ∷ []) o ring-alone
+
+-- the end of the path 0, 1, 2 from 1 on doesn't begin one node earlier
+one_early : ¬ IsEndFrom (0 ∷ 1 ∷ 2 ∷ []) 1 (0 ∷ 1 ∷ 2 ∷ [])
+one_early e = by e.start e.within e.is e.end_is where
+  by : (start : ℕ) → start < 3 → ◌≡◌ {A = ℕ} (get_or (0 ∷ 1 ∷ 2 ∷ []) start 1) 1 → ◌≡◌ {A = List ℕ} (0 ∷ 1 ∷ 2 ∷ []) (drop start (0 ∷ 1 ∷ 2 ∷ [])) → ⊥
+  by zero lt is end = let clash : 0 ≡ 1 = is in absurd (omega (arith, clash))
+  by (suc zero) lt is end = let longer : 3 ≡ 2 = ap (λ (l : List ℕ). length l) end in absurd (omega (arith, longer))
+  by (suc (suc zero)) lt is end = let clash : 2 ≡ 1 = is in absurd (omega (arith, clash))
+  by (suc (suc (suc start))) lt is end = absurd (omega (arith, lt))
+
+-- nor is it the last node alone
+last_alone : ¬ IsEndFrom (0 ∷ 1 ∷ 2 ∷ []) 1 (2 ∷ [])
+last_alone e = by e.start e.within e.is e.end_is where
+  by : (start : ℕ) → start < 3 → ◌≡◌ {A = ℕ} (get_or (0 ∷ 1 ∷ 2 ∷ []) start 1) 1 → ◌≡◌ {A = List ℕ} (2 ∷ []) (drop start (0 ∷ 1 ∷ 2 ∷ [])) → ⊥
+  by zero lt is end = let clash : 0 ≡ 1 = is in absurd (omega (arith, clash))
+  by (suc zero) lt is end = let shorter : 1 ≡ 2 = ap (λ (l : List ℕ). length l) end in absurd (omega (arith, shorter))
+  by (suc (suc zero)) lt is end = let clash : 2 ≡ 1 = is in absurd (omega (arith, clash))
+  by (suc (suc (suc start))) lt is end = absurd (omega (arith, lt))

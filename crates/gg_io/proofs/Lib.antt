@@ -2,3 +2,4 @@ pub mod EndingLemmas
 pub mod EndsLemmas
 pub mod OrderLemmas
 pub mod WritingLemmas
+mod WorkedEndings

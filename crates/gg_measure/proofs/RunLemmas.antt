@@ -14,9 +14,9 @@ use Rattle.gg_measure.proofs.TurnLemmas.{steps-frame}
 
 -- ---- one event
 
-pub tried-goes : (cycle : ℕ) (event : Event) (old new : Network) (done : Bool) → MatchBool done (Step old event new × (cycle_of old event < cycle)) (new ≡ old) → Goes cycle old done new
+pub tried-goes : {P : Type 0} (cycle : ℕ) (event : Event) (old new : Network) (done : Bool) → MatchBool done (Step old event new × (cycle_of old event < cycle)) ((new ≡ old) × P) → Goes cycle old done new
 tried-goes cycle event old new true both = goes-one cycle old new event both.0 both.1
-tried-goes cycle event old new false same = subst (λ x. Goes cycle old false x) (sym same) (goes-none cycle old)
+tried-goes cycle event old new false not = subst (λ x. Goes cycle old false x) (sym not.0) (goes-none cycle old)
 
 -- ---- a lower cycle
 

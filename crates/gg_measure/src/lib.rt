@@ -15,7 +15,7 @@
 //! - [`left`] returns the measure, and [`possible`] a step that may be done, as long as there is one;
 //! - [`run_to`] brings all machines to a cycle by steps of machines below it, and no count further. [`run_to_end`]
 //!   brings them to the end. [`run_by`] does what calls of `run_to` for one cycle after another do, by an [`Order`] of the
-//!   steps of a cycle.
+//!   steps of a cycle, and [`run_noted`] goes by one that [`note_cycle`] has noted.
 //!
 //! Only [`Order::new`] allocates: room for the steps of a cycle.
 #![tactic(auto)]
@@ -33,5 +33,5 @@ pub use laws::{
     steps_fall, steps_up,
 };
 pub use order::Order;
-pub use run::{run_by, run_to, run_to_end};
+pub use run::{note_cycle, run_by, run_noted, run_to, run_to_end};
 pub use tells::{left, possible};

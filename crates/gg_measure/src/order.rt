@@ -67,8 +67,8 @@ impl Order {
         }
     }
 
-    // The steps.
-    pub(crate) fn events(&self) -> &[Event] {
+    /// The steps, in the order in which they were done.
+    pub fn events(&self) -> &[Event] {
         &self.events
     }
 }

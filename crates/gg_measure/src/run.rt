@@ -1,4 +1,4 @@
-//! `run_to`: steps in the fixed order. `run_by`: the same cycle by cycle, by an order that is remembered.
+//! `run_to`: steps in the fixed order. `run_by` and `run_noted`: the same cycle by cycle, by an order that is remembered.
 ghost use Rattle.std.specs.Prelude.{◌≡◌, ℕ, ◌<◌, ◌≤◌, true, length};
 ghost use Rattle.gg_net.specs.Network.{frame_of};
 ghost use Rattle.gg_measure.specs.inside.Nets.{AreDrained, HaveKept, StaysWithin, HasRun, net_left};
@@ -110,16 +110,41 @@ fn note_first<H: Host, Z: Streams>(net: &mut Net<H, Z>, order: &mut Order, cycle
     }
 }
 
-// Goes by an order as long as a pass over it does anything. An empty one is noted first.
-fn follow<H: Host, Z: Streams>(net: &mut Net<H, Z>, order: &mut Order, cycle: u64)
+/// Brings all machines to one cycle, and then to the next one, but none past `cycle`, and notes these last steps in the
+/// order. Does nothing if the order has steps.
+pub fn note_cycle<H: Host, Z: Streams>(net: &mut Net<H, Z>, order: &mut Order, cycle: u64)
+    ensures steps { HasRun cycle net.old net.new }
+    ensures bounds { StaysWithin cycle net.old net.new }
+    ensures frame { frame_of net.new ≡ frame_of net.old }
+{
+    net.kept();
+    note_first(net, order, cycle);
+}
+
+// Goes by an order as long as a pass over it does anything.
+fn follow<H: Host, Z: Streams>(net: &mut Net<H, Z>, order: &Order, cycle: u64)
     ensures { HasRun cycle net.old net.new }
 {
-    note_first(net, order, cycle);
     loop {
         if !pass(net, order.events(), cycle) {
             break;
         }
     }
+}
+
+/// Brings all machines to a cycle by an order that was noted before, which stays as it is. What the order leaves is done
+/// as `run_to` does it.
+pub fn run_noted<H: Host, Z: Streams>(net: &mut Net<H, Z>, order: &Order, cycle: u64)
+    requires within { cycle ≤ net.old.end }
+    requires none_above { (m : ℕ) → m < length net.old.machines → cycle_at net.old m ≤ cycle }
+    ensures there { AllStandAt cycle net.new }
+    ensures steps { HasRun cycle net.old net.new }
+    ensures bounds { StaysWithin cycle net.old net.new }
+    ensures frame { frame_of net.new ≡ frame_of net.old }
+{
+    net.kept();
+    follow(net, order, cycle);
+    run_to(net, cycle);
 }
 
 /// Brings all machines to a cycle as `run_to` does, but cycle by cycle: all stand at one before any goes on. So each cycle
@@ -134,6 +159,6 @@ pub fn run_by<H: Host, Z: Streams>(net: &mut Net<H, Z>, order: &mut Order, cycle
     ensures frame { frame_of net.new ≡ frame_of net.old }
 {
     net.kept();
-    follow(net, order, cycle);
-    run_rounds(net, order, cycle);
+    note_first(net, order, cycle);
+    run_noted(net, order, cycle);
 }

@@ -26,7 +26,7 @@ use Rattle.gg_net.specs.declared.event.StepRefusal.TheVariants.{Full}
 use Rattle.gg_net.specs.Network.{Network, wire_at, IsAtIn, IsAtOut, queue_at, entered_by, puts, takes, entered, kind_at, frame_of}
 use Rattle.gg_net.specs.Step.{after_latch, Ready, Refused}
 use Rattle.gg_net.specs.Kept.{list_at, rows_at, start_at, in_columns, Runs, RunsRows, Answers, Asks, Solves, IsWired, NeedsChannel, BetweenAt, HasKept, Kept}
-use Rattle.gg_net.specs.inside.Net.{IsOpening}
+use Rattle.gg_net.specs.inside.Net.{IsOpening, HasRoom}
 use Rattle.gg_net.specs.Net.{opening_net}
 use Rattle.gg_net.proofs.OpenLemmas.{machine-open}
 use Rattle.gg_net.proofs.WorkedNets.{no-needs}
@@ -284,3 +284,7 @@ not-fewer has = let whole : has.base ≡ 1 = has.whole (lit< tt) in omega (arith
 
 not-from-before : HasKept (0 ∷ 7 ∷ 3 ∷ 5 ∷ []) 1 2 2 (0 ∷ 7 ∷ []) → ⊥
 not-from-before has = omega (arith, has.begun, has.between.held)
+
+-- a queue has room for its channel's capacity, and not for a token less
+not-less-room : ¬ HasRoom (record { producer = 0; out = 0; consumer = 1; place = 0; capacity = 4; first = None } ∷ []) (record { tokens = []; room = 3 } ∷ [])
+not-less-room room = let least : 4 ≤ 3 = room 0 (lit< tt) in absurd (omega (arith, least))

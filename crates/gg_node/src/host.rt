@@ -84,7 +84,7 @@ pub trait Host: Drop + Send {
     fn all_fired(&self, thread: u32, outs: u32) -> bool
         requires thread { thread < length (machines self.now) }
         requires outs { outs ≡ length (machine_at (machines self.now) thread).flags }
-        ensures { result ≡ true → AllFired (machine_at (machines self.now) thread) }
+        ensures { (result ≡ true) ↔ AllFired (machine_at (machines self.now) thread) }
     {
         for place in 0..outs {
             if !self.fired(thread, place) {
@@ -98,7 +98,7 @@ pub trait Host: Drop + Send {
     fn all_latched(&self, thread: u32, ins: u32) -> bool
         requires thread { thread < length (machines self.now) }
         requires ins { ins ≡ length (machine_at (machines self.now) thread).latches }
-        ensures { result ≡ true → AllLatched (machine_at (machines self.now) thread) }
+        ensures { (result ≡ true) ↔ AllLatched (machine_at (machines self.now) thread) }
     {
         for place in 0..ins {
             if !self.latched(thread, place) {

@@ -19,6 +19,7 @@ use Rattle.gg_flat.proofs.WorkedCircuits.{one, eight, nine, node, value, counter
 use Rattle.gg_flat.proofs.WorkedForms.{only, both, three, five, pair, apart, other, same}
 use Rattle.gg_flat.proofs.WorkedMemories.{signal, ports}
 use Rattle.gg_part.specs.Part.{IsPart, IsFrom, IsRegisterFrom}
+use Rattle.gg_part.specs.Building.{Holds}
 use Rattle.gg_part.specs.inside.Choice.{IsChoice, NamesMemory}
 
 -- ---- the counter's register
@@ -208,3 +209,7 @@ not-in-turn is = turned (is.ins 0 (lit< tt)).1
   where
     turned : Input 1 ≡ Input 0 → ⊥
     turned is = cc
+
+-- the counter's signal comes from outside, so the part doesn't have its register
+not-outside : ¬ Holds counter (2 ∷ []) 2 0
+not-outside holds = holds.inside (0, lit< tt, refl)

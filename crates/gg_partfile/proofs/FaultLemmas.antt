@@ -1,17 +1,16 @@
 -- The bytes of a file have one answer: a request, or one key with which they are refused.
 use Rattle.std.proofs.Common.{◌≡◌, ℕ, List, [], ◌∷◌, ◌++◌, Bool, true, false, Option, Some, None, refl, sym, ap, ◌∙◌, subst, cond, inl, inr}
-use Rattle.std.specs.Prelude.{⊤, is_some, codes, take}
+use Rattle.std.specs.Prelude.{⊤, is_some, codes}
 use Rattle.std.proofs.lemmas.Option.{none-some, same_Some}
 use Rattle.serde_json.specs.Data.{Data}
 use Rattle.serde_json.specs.Find.{get, as_bool, as_object}
 use Rattle.gg_partfile.specs.Fault.{IfKey, first_wrong, wrong_key, IsRefused}
 use Rattle.gg_bits.specs.Lists.{or_else}
-use Rattle.gg_partfile.specs.Keys.{Key, keys, is_known, has_shape, misshapen, or_default, under, unknown}
+use Rattle.gg_partfile.specs.Keys.{Key, keys, is_known, has_shape, held, misshapen, or_default, under, unknown}
 use Rattle.gg_partfile.specs.Partition.{Asks, IsPartition}
 use Rattle.gg_partfile.specs.Shapes.{texts, groups, numbers, ratios, bridges}
 use Rattle.gg_partfile.specs.declared.fault.PartFault.{PartFault}
 use Rattle.gg_partfile.specs.declared.fault.PartFault.TheVariants.{WrongKey, NoMemory}
-use Rattle.gg_partfile.specs.declared.request.BridgeEntry.{BridgeEntry}
 use Rattle.gg_partfile.specs.declared.request.Request.{Request}
 
 -- ---- keys
@@ -25,7 +24,7 @@ fits-under : {A : Type 0} (default : A) (f : Data → Option A) (key : List ℕ)
 fits-under default f key d known = shape-read default f (get key d) ∙ sym (ap (λ (b : Bool). is_some (or_default default f (cond b (get key d) None))) known)
 
 -- what is read under a known key has its shape
-pub fits : {A : Type 0} (default : A) (f : Data → Option A) (key : List ℕ) (d : Data) (found : A) → is_known key ≡ true → under default f key d ≡ Some found → has_shape (λ e. is_some (f e)) (get key d) ≡ true
+fits : {A : Type 0} (default : A) (f : Data → Option A) (key : List ℕ) (d : Data) (found : A) → is_known key ≡ true → under default f key d ≡ Some found → has_shape (λ e. is_some (f e)) (get key d) ≡ true
 fits default f key d found known is = fits-under default f key d known ∙ ap (λ (o : Option _). is_some o) is
 
 -- the first key is passed over if its value has its shape
@@ -41,24 +40,27 @@ all-fit : (ks : List Key) (d : Data) → AllFit ks d → misshapen ks d ≡ None
 all-fit [] d h = refl
 all-fit (key ∷ rest) d h = misshapen-next key rest d h.0 ∙ all-fit rest d h.1
 
--- where all keys before the last have their shapes and the last hasn't, it is the last
-last-misfits : (first : List Key) (last : Key) (d : Data) → AllFit first d → has_shape last.fits (get last.name d) ≡ false → misshapen (first ++ last ∷ []) d ≡ Some last.name
-last-misfits [] last d h isnt = ap (λ b. cond b None (Some last.name)) isnt
-last-misfits (key ∷ rest) last d h isnt = misshapen-next key (rest ++ last ∷ []) d h.0 ∙ last-misfits rest last d h.1 isnt
+-- where all keys before a key have their shapes and the key hasn't, it is the first
+first-misfits : (before : List Key) (key : Key) (after : List Key) (d : Data) → AllFit before d → has_shape key.fits (get key.name d) ≡ false → misshapen (before ++ key ∷ after) d ≡ Some key.name
+first-misfits [] key after d h isnt = ap (λ b. cond b (misshapen after d) (Some key.name)) isnt
+first-misfits (other ∷ rest) key after d h isnt = misshapen-next other (rest ++ key ∷ after) d h.0 ∙ first-misfits rest key after d h.1 isnt
 
 -- ---- the key that is told
 
 told-last : (d : Data) → is_some (as_object d) ≡ true → AllFit keys d → wrong_key d ≡ unknown d
 told-last d object fit = ap (λ b. cond b (first_wrong d) (Some (codes "-"))) object ∙ ap (λ o. or_else o (unknown d)) (all-fit keys d fit)
 
--- if the value under `bridges` has another shape, and no value under a key before it, the key that is told is `bridges`
-pub bridges-wrong : (d : Data) (fault : PartFault) (default : List BridgeEntry) → is_some (as_object d) ≡ true → AllFit (take 7 keys) d
-    → IfKey (λ told. (told ≡ codes "bridges") × (under default bridges (codes "bridges") d ≡ None)) fault → IfKey (λ key. wrong_key d ≡ Some key) fault
-bridges-wrong d NoMemory default object fit h = tt
-bridges-wrong d (WrongKey key) default object fit (is, none) =
+-- if the value under a key has another shape, and no value under a key before it, it is the key that is told
+pub first-told : {A : Type 0} (before : List Key) (name : List ℕ) (f : Data → Option A) (after : List Key) (d : Data) (fault : PartFault)
+    → keys ≡ before ++ record { name = name; fits = λ e. is_some (f e) } ∷ after → is_known name ≡ true → is_some (as_object d) ≡ true → AllFit before d
+    → IfKey (λ told. (told ≡ name) × (has_shape (λ e. is_some (f e)) (held name d) ≡ false)) fault → IfKey (λ key. wrong_key d ≡ Some key) fault
+first-told before name f after d NoMemory all known object fit h = tt
+first-told before name f after d (WrongKey key) all known object fit (is, isnt) =
     ap (λ b. cond b (first_wrong d) (Some (codes "-"))) object
-    ∙ ap (λ o. or_else o (unknown d)) (last-misfits (take 7 keys) (record { name = codes "bridges"; fits = λ e. is_some (bridges e) }) d fit
-    (fits-under default bridges (codes "bridges") d refl ∙ ap (λ (o : Option _). is_some o) none))
+    ∙ ap (λ (ks : List Key). or_else (misshapen ks d) (unknown d)) all
+    ∙ ap (λ o. or_else o (unknown d))
+    (first-misfits before (record { name = name; fits = λ e. is_some (f e) }) after d fit
+    (sym (ap (λ (b : Bool). has_shape (λ e. is_some (f e)) (cond b (get name d) None)) known) ∙ isnt))
     ∙ ap (λ k. Some k) (sym is)
 
 -- a value that asks for a request has no wrong key

@@ -1,8 +1,8 @@
 //! The reader of partition files.
-ghost use Rattle.std.specs.Prelude.{◌≡◌, [], Some, None, IfOk, IfErr, length};
+ghost use Rattle.std.specs.Prelude.{◌≡◌, [], false, true, Some, IfOk, IfErr, is_some, length};
 ghost use Rattle.serde_json.specs.View.{view};
 ghost use Rattle.gg_partfile.specs.Fault.{IfKey, wrong_key, IsRefused};
-ghost use Rattle.gg_partfile.specs.Keys.{under};
+ghost use Rattle.gg_partfile.specs.Keys.{has_shape, held, under};
 ghost use Rattle.gg_partfile.specs.Partition.{Asks, IsPartition};
 ghost use Rattle.gg_partfile.specs.Request.{no_request};
 ghost use Rattle.gg_partfile.specs.Size.{HasAtMost};
@@ -105,7 +105,8 @@ fn put_under<T: FromValue>(
     place: &mut T,
 ) -> Result<(), PartFault>
     ensures is { IfOk result (λ _. under place.old T.reads key.now (view value.now) ≡ Some place.new) }
-    ensures wrong { IfErr result (IfKey (λ told. (told ≡ key.now) × (under place.old T.reads key.now (view value.now) ≡ None))) }
+    ensures fits { IfOk result (λ _. has_shape (λ d. is_some (T.reads d)) (held key.now (view value.now)) ≡ true) }
+    ensures wrong { IfErr result (IfKey (λ told. (told ≡ key.now) × (has_shape (λ d. is_some (T.reads d)) (held key.now (view value.now)) ≡ false))) }
 {
     let Some(held) = held(value, key) else {
         return Ok(());

@@ -8,3 +8,4 @@ pub mod ConeLemmas
 pub mod LawLemmas
 pub mod UnsetLemmas
 pub mod WorkedSlots
+mod WorkedCycles

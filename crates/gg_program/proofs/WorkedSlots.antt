@@ -1,18 +1,21 @@
 -- Slots worked by hand, of the unit whose output `p` is its input `x` and whose output `q` is `xor(x, k)`: what is done after each
 -- step, and which slots aren't those of a cycle.
-use Rattle.std.proofs.Common.{◌≡◌, ℕ, zero, suc, List, [], ◌∷◌, Bool, true, false, true≢false, refl, sym, subst, inl, inr, arith, lit<}
+use Rattle.std.proofs.Common.{◌≡◌, ℕ, zero, suc, ◌≤◌, ◌+◌, List, [], ◌∷◌, Bool, true, false, true≢false, refl, sym, subst, inl, inr, arith, lit<}
+use Rattle.std.specs.List.Sorted.{IsNonDecreasingBy}
+use Rattle.gg_flat.specs.declared.piece.Driver.TheVariants.{Input}
 use Rattle.gg_flat.specs.Line.{shape_at, value_at}
 use Rattle.gg_flat.specs.Circuit.{signal_shapes, driver_at}
 use Rattle.gg_flat.specs.Reads.{Reads, Reaches}
 use Rattle.gg_flat.specs.State.{State}
 use Rattle.gg_flat.specs.Settled.{driver_value}
+use Rattle.gg_flat.proofs.WorkedCircuits.{eight}
 use Rattle.gg_flat.proofs.WorkedForms.{both, four}
 use Rattle.gg_order.proofs.NeedsLemmas.ReachLemmas.{Reaches-itself, along-reaches}
 use Rattle.gg_order.proofs.NeedsLemmas.WorkedUnits.{unit, q-k, In, copies, in-closed, p-k}
 use Rattle.gg_program.specs.Slots.{Slotted, IsDone, HasInput, HasNeeded, HasInputs, DoneWith, inputs_in}
 use Rattle.gg_program.specs.inside.Slots.{with_input}
 use Rattle.gg_program.specs.Right.{AreRight, InCycle}
-use Rattle.gg_program.specs.Unset.{unset, IsConeDone}
+use Rattle.gg_program.specs.Unset.{unset, unset_among, IsConeDone}
 
 abbrev start : State
 start = record { registers = []; banks = [] }
@@ -129,3 +132,15 @@ all-done =
       done = λ s e. elim e [ inl was ↦ was-done s was | inr to ↦ in-done s (along-reaches unit In in-closed 2 s tt to) ];
       only = λ s is. inr (inr (both (HasInput unit with-k) refl refl));
     }
+
+-- slots with room for one node less than the line of `q` has
+not-cramped : (values : List ℕ) (done : List Bool) → ¬ InCycle unit start (record { values = values; done = done; room = 2 })
+not-cramped values done cycle = let least : 3 ≤ 2 = cycle.held.room.drivers 3 (record { ty = eight; driver = Input 0 }) (lit< tt) in absurd (omega (arith, least))
+
+-- what is done already isn't evaluated once more
+not-again : 7 + 1 ≤ 7 + unset_among unit with-q.done → ⊥
+not-again steps = let least : 8 ≤ 7 = steps in absurd (omega (arith, least))
+
+-- signals that are found stand in ascending order
+not-turned : IsNonDecreasingBy (λ (s : ℕ). s) (2 ∷ 1 ∷ []) → ⊥
+not-turned sorted = let least : 2 ≤ 1 = sorted 0 1 0 (omega arith) (lit< tt) in absurd (omega (arith, least))

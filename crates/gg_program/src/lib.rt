@@ -1,6 +1,6 @@
 //! Programs: what a unit of a cut circuit computes, output by output.
 //!
-//! A [`Program`] is a well-formed circuit in an order of evaluation, with the needs of each out-signal. [`Slots`]
+//! A [`Program`] is a well-formed circuit in an order of evaluation, with its tape and the needs of each out-signal. [`Slots`]
 //! hold the values of one cycle. A signal is done if its value of this cycle is in its place. An input is put into
 //! its place, and a signal that is done isn't evaluated again. [`Steps`] count the evaluations. The crate promises:
 //!

@@ -18,6 +18,7 @@ use crate::steps::Steps;
 use gg_bits::Ids;
 use gg_flat::Piece;
 use gg_order::{State, needs_of, room_of};
+use gg_tape::Tape;
 use std::alloc::{AllocError, Global};
 use std::error::Error;
 use std::fmt;
@@ -52,12 +53,18 @@ impl Error for NoMemory {}
 /// needs.
 pub struct Program<'a> {
     piece: &'a Piece,
+    tape: Tape,
     needs: Vec<Ids>,
 }
 
 impl Drop for Program<'_> {
     fn drop(self) {
-        let Self { piece: _, needs } = self;
+        let Self {
+            piece: _,
+            tape,
+            needs,
+        } = self;
+        drop(tape);
         drop(needs);
     }
 }
@@ -70,7 +77,7 @@ impl<'a> Model for Program<'a> {
 
     ghost view = { λ program. record { circuit = program.piece.now; needs = program.needs.items } };
 
-    ghost invariant = { λ program. IsProgram program.piece.now program.needs.items };
+    ghost invariant = { λ program. IsProgram program.piece.now program.needs.items program.tape };
 }
 
 impl<'a> Program<'a> {
@@ -86,7 +93,8 @@ impl<'a> Program<'a> {
         ensures needs { IfOk result (λ program. AreNeedsOfOuts program.circuit program.needs) }
     {
         let needs = needs_of(alloc, piece)?;
-        Ok(Program { piece, needs })
+        let tape = Tape::whole(alloc, piece)?;
+        Ok(Program { piece, tape, needs })
     }
 
     /// The circuit, which is well formed and in an order of evaluation. The program's needs are those of its
@@ -170,7 +178,7 @@ impl<'a> Program<'a> {
         let signal = piece.outs()[out as usize];
         // others may wait for a token that needs no input
         let alone = self.needs(out).is_empty();
-        slots.reach(piece, state, signal, alone, steps);
+        slots.reach(piece, &self.tape, state, signal, alone, steps);
         slots.value(signal)
     }
 
@@ -195,7 +203,7 @@ impl<'a> Program<'a> {
         ensures none { NoneDone slots.new }
         ensures steps { steps.new ≤ steps.old + unset self.now.circuit slots.old }
     {
-        slots.next(self.piece, state, edges, steps);
+        slots.next(self.piece, &self.tape, state, edges, steps);
     }
 
     /// `cone_once`, with nobody who looks at the steps.

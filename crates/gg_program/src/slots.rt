@@ -5,6 +5,7 @@ ghost use Rattle.gg_order.specs.Marks.{is_marked};
 ghost use Rattle.gg_flat.specs.Line.{value_at};
 ghost use Rattle.gg_flat.specs.WellFormed.{IsWellFormed};
 ghost use Rattle.gg_flat.specs.State.{State, IsState};
+ghost use Rattle.gg_tape.specs.inside.Tape.{IsWhole};
 ghost use Rattle.gg_flat.specs.InOrder.{IsInOrder};
 ghost use Rattle.gg_flat.specs.Circuit.{FlatCircuit};
 ghost use Rattle.gg_program.specs.Slots.{AreSlots, inputs_in, HasInputs, HasNeeded, IsDone, NoneDone, DoneWith};
@@ -16,6 +17,7 @@ use crate::search::{Search, are_marked};
 use crate::steps::Steps;
 use gg_flat::Piece;
 use gg_order::{State, zeros};
+use gg_tape::{Cells, Tape};
 use std::alloc::{AllocError, Global};
 use std::marker::Model;
 use std::sync::ledger::Ledger;
@@ -23,7 +25,8 @@ use std::sync::ledger::Ledger;
 /// The values of a cycle. A contract sees the value of each signal, which of them are done, and the room for the
 /// nodes of a line.
 pub struct Slots {
-    values: Vec<u128>,
+    cells: Cells,
+    // the scratch space for the lines of registers
     room: Vec<u128>,
     search: Search,
     // how often an input was put in this cycle
@@ -35,13 +38,13 @@ pub struct Slots {
 impl Drop for Slots {
     fn drop(self) {
         let Self {
-            values,
+            cells,
             room,
             search,
             puts: _,
             whole: _,
         } = self;
-        drop(values);
+        drop(cells);
         drop(room);
         drop(search);
     }
@@ -54,9 +57,9 @@ impl Model for Slots {
 
     ghost Value = { Slotted };
 
-    ghost view = { λ slots. record { values = slots.values.items; done = slots.search.marks; room = length slots.room.items } };
+    ghost view = { λ slots. record { values = slots.cells.values; done = slots.search.marks; room = slots.cells.room } };
 
-    ghost invariant = { λ slots. (slots.search.found ≡ []) × (slots.whole ≡ true → IsFull slots.search.marks) };
+    ghost invariant = { λ slots. (slots.search.found ≡ []) × (slots.whole ≡ true → IsFull slots.search.marks) × (length slots.room.items ≡ slots.cells.room) };
 }
 
 impl Slots {
@@ -66,11 +69,11 @@ impl Slots {
         ensures done { IfOk result (λ slots. slots.done ≡ replicate count false) }
         ensures room { IfOk result (λ slots. slots.room ≡ room) }
     {
-        let values = zeros(alloc, count)?;
+        let cells = Cells::new(alloc, count, room)?;
         let room = zeros(alloc, room)?;
         let search = Search::new(alloc, count)?;
         Ok(Slots {
-            values,
+            cells,
             room,
             search,
             puts: 0,
@@ -85,7 +88,7 @@ impl Slots {
         requires done { signal < length self.old.done }
         ensures { self.new ≡ record { values = slice_set self.old.values signal value; done = slice_set self.old.done signal true; room = self.old.room } }
     {
-        self.values[signal as usize] = value;
+        self.cells.set(signal, value);
         self.search.mark(signal);
         self.puts = self.puts.saturating_add(1);
     }
@@ -106,7 +109,7 @@ impl Slots {
         requires { signal < length self.now.values }
         ensures { result ≡ value_at self.now.values signal }
     {
-        self.values[signal as usize]
+        self.cells.value(signal)
     }
 
     // Whether a signal is done.
@@ -132,12 +135,14 @@ impl Slots {
     pub(crate) fn reach<L: Ledger>(
         &mut self,
         piece: &Piece,
+        tape: &Tape,
         state: &State,
         signal: u32,
         alone: bool,
         steps: &mut Steps<L>,
     )
         requires formed { IsWellFormed piece.now }
+        requires whole { IsWhole piece.now tape.now }
         requires ordered { IsInOrder piece.now }
         requires known { signal < length piece.now.signals }
         requires state { IsState piece.now state.now }
@@ -151,16 +156,24 @@ impl Slots {
     {
         if !self.is_done(signal) {
             if self.takes_all(piece, alone) {
-                self.rest(piece, state, steps);
+                self.rest(piece, tape, state, steps);
             } else {
-                self.cone(piece, state, signal, steps);
+                self.cone(piece, tape, state, signal, steps);
             }
         }
     }
 
     // Evaluates what a signal reaches and isn't done, and nothing else.
-    fn cone<L: Ledger>(&mut self, piece: &Piece, state: &State, signal: u32, steps: &mut Steps<L>)
+    fn cone<L: Ledger>(
+        &mut self,
+        piece: &Piece,
+        tape: &Tape,
+        state: &State,
+        signal: u32,
+        steps: &mut Steps<L>,
+    )
         requires formed { IsWellFormed piece.now }
+        requires whole { IsWhole piece.now tape.now }
         requires ordered { IsInOrder piece.now }
         requires known { signal < length piece.now.signals }
         requires state { IsState piece.now state.now }
@@ -175,18 +188,19 @@ impl Slots {
         self.search.sort();
         work_out(
             piece,
+            tape,
             self.search.found(),
             state,
-            self.values.as_mut_slice(),
-            self.room.as_mut_slice(),
+            &mut self.cells,
             steps,
         );
         self.search.forget();
     }
 
     // Evaluates what isn't done. All inputs are done. Afterwards all signals are.
-    fn rest<L: Ledger>(&mut self, piece: &Piece, state: &State, steps: &mut Steps<L>)
+    fn rest<L: Ledger>(&mut self, piece: &Piece, tape: &Tape, state: &State, steps: &mut Steps<L>)
         requires formed { IsWellFormed piece.now }
+        requires whole { IsWhole piece.now tape.now }
         requires ordered { IsInOrder piece.now }
         requires state { IsState piece.now state.now }
         requires cycle { InCycle piece.now state.now self.old }
@@ -200,10 +214,10 @@ impl Slots {
         if !self.whole {
             work_rest(
                 piece,
+                tape,
                 self.search.marks(),
                 state,
-                self.values.as_mut_slice(),
-                self.room.as_mut_slice(),
+                &mut self.cells,
                 steps,
             );
             self.search.fill();
@@ -215,11 +229,13 @@ impl Slots {
     pub(crate) fn next<L: Ledger>(
         &mut self,
         piece: &Piece,
+        tape: &Tape,
         state: &mut State,
         edges: &[bool],
         steps: &mut Steps<L>,
     )
         requires formed { IsWellFormed piece.now }
+        requires whole { IsWhole piece.now tape.now }
         requires ordered { IsInOrder piece.now }
         requires state { IsState piece.now state.old }
         requires cycle { InCycle piece.now state.old self.old }
@@ -230,13 +246,8 @@ impl Slots {
         ensures none { NoneDone self.new }
         ensures steps { steps.new ≤ steps.old + unset piece.now self.old }
     {
-        self.rest(piece, state, steps);
-        state.advance(
-            piece,
-            edges,
-            self.values.as_slice(),
-            self.room.as_mut_slice(),
-        );
+        self.rest(piece, tape, state, steps);
+        state.advance(piece, edges, self.cells.values(), self.room.as_mut_slice());
         self.clear();
     }
 }

@@ -1,7 +1,7 @@
 -- Rows worked by hand from the grammar: which row the tokens of a line spell (FIRRTL Specification, "Grammar",
 -- "Primitive Operations"). Each operation, keyword and form has one, with a different operand in each place, so that the row
 -- would change if words or operands changed places.
-use Rattle.std.proofs.Common.{◌≡◌, ℕ, Bool, true, false, List, [], ◌∷◌, None, Some, codes, refl, sym, ◌∙◌}
+use Rattle.std.proofs.Common.{◌≡◌, ℕ, Bool, true, false, List, [], ◌∷◌, None, Some, Err, codes, refl, sym, ◌∙◌}
 use Rattle.std.proofs.lemmas.Option.{same_Some}
 use Rattle.gg_bits.specs.declared.types.Kind.{Kind}
 use Rattle.gg_bits.specs.declared.types.Kind.TheVariants.{UInt, SInt}
@@ -23,6 +23,8 @@ use Rattle.gg_ast.specs.Term.{Term, NamedTerm, ConstantTerm, UnaryTerm, BinaryTe
 use Rattle.gg_ast.specs.declared.statement.Argument.{Argument}
 use Rattle.gg_ast.specs.declared.statement.Argument.TheVariants as given
 use Rattle.gg_read_row.specs.Forms.{SpellsRow}
+use Rattle.gg_read_row.specs.declared.cursor.RowFault.TheVariants.{NoForm}
+use Rattle.gg_read_row.specs.inside.LineRows.{TellsRow}
 use Rattle.gg_read_row.specs.inside.Reading.{row_at}
 use Rattle.gg_read_row.proofs.RowLaws.{spelt-row_at}
 use Rattle.gg_read_row.proofs.RowsSpelt.{row-spells}
@@ -401,3 +403,7 @@ one_operand row h = none refl h
 -- a.b.c.d <= k
 sink_of_four : (row : Row) → IsRow row (Word (codes "a") ∷ Symbol Dot ∷ Word (codes "b") ∷ Symbol Dot ∷ Word (codes "c") ∷ Symbol Dot ∷ Word (codes "d") ∷ Symbol Connect ∷ Word (codes "k") ∷ []) → ⊥
 sink_of_four row h = none refl h
+
+-- It isn't told that there is none.
+not_none : TellsRow (Word (codes "skip") ∷ []) (Err NoForm) → ⊥
+not_none tells = tells SkipRow skip.spelt

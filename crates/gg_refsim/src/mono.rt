@@ -12,7 +12,8 @@ ghost use Rattle.gg_refsim.specs.inside.Cycle.{begun};
 
 use gg_clocks::{Ratio, Timing};
 use gg_flat::Piece;
-use gg_order::{Design, State, scratch_of, signal_zeros};
+use gg_order::{Design, State, room_of, scratch_of};
+use gg_tape::{Cells, Tape};
 use std::alloc::{AllocError, Global};
 use std::error::Error;
 use std::fmt;
@@ -49,7 +50,9 @@ pub struct Mono<'a> {
     // The ratios of the clocks. Its tick is the number of cycles that were made.
     timing: Timing,
     state: State,
-    signals: Vec<u128>,
+    tape: Tape,
+    cells: Cells,
+    // The scratch space for the lines of registers.
     scratch: Vec<u128>,
 }
 
@@ -59,12 +62,14 @@ impl Drop for Mono<'_> {
             design: _,
             timing,
             state,
-            signals,
+            tape,
+            cells,
             scratch,
         } = self;
         drop(timing);
         drop(state);
-        drop(signals);
+        drop(tape);
+        drop(cells);
         drop(scratch);
     }
 }
@@ -78,7 +83,7 @@ impl<'a> Model for Mono<'a> {
 
     ghost view = { λ mono. record { circuit = mono.design.now.circuit; ratios = mono.timing.ratios; cycle = mono.timing.tick; state = mono.state } };
 
-    ghost invariant = { λ mono. IsKept mono.design.now mono.state mono.signals.items (length mono.scratch.items) };
+    ghost invariant = { λ mono. IsKept mono.design.now mono.state mono.tape mono.cells (length mono.scratch.items) };
 }
 
 impl<'a> Mono<'a> {
@@ -97,14 +102,16 @@ impl<'a> Mono<'a> {
     {
         let piece = design.piece();
         let state = State::new(alloc, piece)?;
-        let signals = signal_zeros(alloc, piece)?;
+        let tape = Tape::of(alloc, piece, design.order())?;
+        let cells = Cells::new(alloc, piece.signal_count(), room_of(piece))?;
         let scratch = scratch_of(alloc, piece)?;
         let timing = Timing::new(alloc, ratios, 0)?;
         Ok(Mono {
             design,
             timing,
             state,
-            signals,
+            tape,
+            cells,
             scratch,
         })
     }
@@ -138,17 +145,14 @@ impl<'a> Mono<'a> {
             → (printed ≡ outs.new) × (after ≡ self.new.state) }
     {
         let piece = self.design.piece();
-        self.state.settle(
-            piece,
-            self.design.order(),
-            inputs,
-            &mut self.signals,
-            &mut self.scratch,
-        );
-        read_outs(piece.outs(), &self.signals, outs);
+        // for the invariant alone
+        let _ = self.design.order();
+        self.tape
+            .settle(piece, &self.state, inputs, &mut self.cells);
+        read_outs(piece.outs(), self.cells.values(), outs);
         let edges = self.timing.edges();
         self.state
-            .advance(piece, edges, &self.signals, &mut self.scratch);
+            .advance(piece, edges, self.cells.values(), &mut self.scratch);
         self.timing.advance();
     }
 }

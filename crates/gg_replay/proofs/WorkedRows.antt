@@ -4,6 +4,7 @@ use Rattle.gg_node.specs.Machine.{Machine, KeepsLast, no_state}
 use Rattle.gg_net.specs.declared.shape.Wire.{Wire}
 use Rattle.gg_net.specs.declared.event.Event.TheVariants.{Fire}
 use Rattle.gg_net.specs.Step.{Step}
+use Rattle.gg_net.specs.markings.Steps.{IsStep}
 use Rattle.gg_flat.specs.Line.{value_at}
 use Rattle.gg_flat.specs.Streams.{Flow}
 use Rattle.gg_net.specs.declared.event.StepRefusal.TheVariants.{Stranger}
@@ -108,3 +109,7 @@ after = record { machines = gone ∷ []; wires = wires; queues = [] ∷ (3 ∷ [
 
 second-stops : (step : Step net (Fire 1) after) → IsStop net (Some (Fire 1) ∷ None ∷ Some (Fire 0) ∷ []) after (Refused 2 Stranger)
 second-stops step = record { done = 1; steps = (after, step, refl); event = None; next = refl; number = refl; refused = refl }
+
+-- a line that is no step is never done
+not-passed : IsStep net None net → ⊥
+not-passed step = step

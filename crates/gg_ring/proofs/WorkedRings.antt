@@ -1,10 +1,11 @@
 -- Rings worked by hand: one of two places, of which one value was taken and two are left.
-use Rattle.std.proofs.Common.{◌≡◌, ℕ, zero, suc, ◌<◌, ◌≤◌, true, true≢false, List, [], ◌∷◌, refl, sym, ◌∙◌, arith}
+use Rattle.std.proofs.Common.{◌≡◌, ℕ, zero, suc, ◌<◌, ◌≤◌, ◌+◌, true, true≢false, List, [], ◌∷◌, refl, sym, ◌∙◌, arith}
 use mathlib.Core.Option.{some, some-injective, some-ne-none}
 use lib.ListN.{get_elem?}
 use Rattle.atomic_table.specs.Table.{State}
 use Rattle.gg_ring.specs.declared.rule.View.{View}
 use Rattle.gg_ring.specs.inside.Rule.{low_word, high_word, low, high, StandsLow, StandsHigh, Laid, FitsPut, FitsTake, Holds}
+use Rattle.gg_ring.specs.Seats.{steps_of_a_call}
 use Rattle.gg_ring.specs.inside.Views.{putter, taker, saw_head, stored_to, has_put, loaded_low, loaded_high, has_taken}
 
 -- ---- words
@@ -101,3 +102,7 @@ not-none h = none h.taker h.one_takes.0 h.one_takes.1 h.one_takes.2
     none : (t : ℕ) (v : View) → get_elem? (putter stream 2 3 0 ∷ []) t ≡ some v → v.takes ≡ true → ⊥
     none zero v at takes = true≢false (sym takes ∙ (λ i. (some-injective v (putter stream 2 3 0) (sym at) i).takes))
     none (suc t) v at takes = some-ne-none v (sym at)
+
+-- a call makes no fifth step
+not-five : 7 + 5 ≤ 7 + steps_of_a_call → ⊥
+not-five moves = let least : 12 ≤ 11 = moves in omega (arith, least)

@@ -6,7 +6,6 @@ use Rattle.gg_flat.specs.Line.{value_at}
 use Rattle.gg_flat.specs.Streams.{Flow}
 use Rattle.gg_cut_plan.specs.declared.plan.Plan.{Plan}
 use Rattle.gg_flat.specs.Run.{Start}
-use Rattle.gg_cut_reference.specs.Follows.{plan_start}
 use Rattle.gg_node.specs.Machine.{Machine, latch_at, machine_at}
 use Rattle.gg_node.proofs.EmptyLemmas.{empty-after}
 use Rattle.gg_net.specs.declared.shape.Wire.{Wire}
@@ -22,9 +21,7 @@ use Rattle.gg_cut_reference.proofs.WholeLemmas.RunLemmas.{whole-runs}
 use Rattle.gg_build.proofs.PlanLemmas.OpeningLemmas.{built-opening}
 use Rattle.gg_build.proofs.PlanLemmas.PlanLemmas.{plan-no-ring, plan-wired}
 use Rattle.gg_build.proofs.PlanLemmas.SolvedLemmas.{plan-solved}
-use Rattle.gg_build.proofs.PlanLemmas.ZeroLemmas.{built-with-zeros, zero-tokens}
-use Rattle.gg_build.specs.inside.Build.{IsOpeningFrom, IsToRun, run_from_zeros}
-use Rattle.gg_build.specs.Build.{IsOpeningOf, IsToRunFrom, run_token}
+use Rattle.gg_build.specs.Build.{IsOpeningFrom, IsToRunFrom, run_token}
 
 -- the queue that a channel opens with, by the token in it
 between-first : (first : Option ℕ) (list : List ℕ) (capacity begin taken entered : ℕ) (queue : List ℕ) → queue ≡ opening_queue first → taken ≡ begin → entered ≡ entered_by first begin → 0 < capacity
@@ -89,14 +86,3 @@ module _ (plan : Plan) (start : Start) (columns : List (List ℕ)) (n : ℕ) (fl
             (whole-runs run.design run.request run.models start columns n run.rows given.can given.typed given.given given.run)
             (plan-ins run.design run.request run.models given.can);
       })))
-
--- ---- the start of the whole run
-
-pub from-zeros : (plan : Plan) (columns : List (List ℕ)) (n : ℕ) (flow : Flow) (run : IsToRun plan columns n flow) (opening : Network) → IsOpeningOf plan columns n opening
-    → IsOpeningFrom plan (plan_start run.design run.request) (run_token (run_from_zeros run)) columns n opening
-from-zeros plan columns n flow run opening opens =
-    record {
-      machines = opens.machines;
-      built = built-with-zeros run.design run.request run.models run.default plan columns opens.machines run.given.planned opens.built;
-      is = opens.is ∙ ap (λ (wires : List Wire). opening_net opens.machines wires n) (sym (zero-tokens run.design run.request plan));
-    }

@@ -29,8 +29,7 @@ use Rattle.gg_build.specs.plan.Built.{IsBuilt, body_start, machine_in, nameless,
 use Rattle.gg_bits.specs.Limits.{tray_rows}
 use Rattle.gg_build.proofs.PlanLemmas.FitLemmas.{kind-is}
 use Rattle.gg_build.proofs.PlanLemmas.LinkLemmas.{length-from, wire-from}
-use Rattle.gg_build.specs.inside.Build.{IsOpeningFrom}
-use Rattle.gg_build.specs.Build.{IsToRunFrom, run_token}
+use Rattle.gg_build.specs.Build.{IsOpeningFrom, IsToRunFrom, run_token}
 use Rattle.gg_rows.specs.inside.Rows.{AreTraysOf, StillHas, outputs_in, told_value}
 use Rattle.gg_build.specs.StandsAt.{IsNetOfPlan}
 use Rattle.gg_rows.proofs.TrayLemmas.{tray-keeps, tray-only, tray-tells}

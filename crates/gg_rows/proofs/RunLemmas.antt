@@ -1,11 +1,10 @@
 -- Windows, one after another: the network stands at the end of each, and the rows before it were taken and came to the trays.
-use Rattle.std.proofs.Common.{◌≡◌, ℕ, suc, ◌+◌, ◌-◌, ◌<◌, ◌≤◌, List, Bool, true, false, refl, sym, ap, ◌∙◌, subst, ⊎_elim, arith}
+use Rattle.std.proofs.Common.{◌≡◌, ℕ, suc, ◌+◌, ◌-◌, ◌*◌, ◌<◌, ◌≤◌, ◌⊎◌, inl, inr, List, Bool, true, false, refl, sym, ap, ◌∙◌, subst, ⊎_elim, arith}
 use Rattle.std.specs.Prelude.{Result, Ok, Err}
 use Rattle.std.proofs.lemmas.Bool.{cases_lt}
 use Rattle.gg_flat.specs.Run.{Start}
 use Rattle.gg_flat.specs.Streams.{Flow}
-use Rattle.gg_build.specs.inside.Build.{IsOpeningFrom}
-use Rattle.gg_build.specs.Build.{IsToRunFrom, run_token}
+use Rattle.gg_build.specs.Build.{IsOpeningFrom, IsToRunFrom, run_token}
 use Rattle.gg_cut_plan.specs.Seated.{first_kept_tray, plan_bridges}
 use Rattle.gg_cut_plan.specs.declared.plan.Plan.{Plan}
 use Rattle.gg_net.specs.Network.{AllStandAt, Frame, Network, frame_of}
@@ -17,9 +16,9 @@ use Rattle.gg_rows.specs.inside.Rows.{AreTraysOf, run_row}
 use Rattle.gg_rows.specs.Rows.{TraysKeep}
 use Rattle.gg_build.specs.StandsAt.{StandsAt}
 use Rattle.gg_rows.specs.inside.RunTaken.{TakesTheRow, TakesTheRun, TakesTheWindow}
-use Rattle.gg_rows.specs.inside.Taken.{IsRanOut, Ran, TakesSome, Took, TookTo, WentBy}
+use Rattle.gg_rows.specs.inside.Taken.{IsLastOf, IsRanOut, Ran, StopsIn, TakesAt, TakesSome, Took, TookTo, WentBy}
 use Rattle.gg_rows.specs.inside.Taken.Took.{Wants}
-use Rattle.gg_rows.specs.inside.Window.{window_end}
+use Rattle.gg_rows.specs.inside.Window.{IsWindowOf, window_end}
 use Rattle.gg_rows.proofs.OpeningLemmas.{begins-so}
 use Rattle.gg_rows.proofs.OutputLemmas.{net-stays, opening-is-net}
 use Rattle.gg_rows.proofs.TakenLemmas.{count-within, ended-within, row-there, took-all, took-fails, took-last, took-next, went-more, went-none, went-on, went-on-so, went-then}
@@ -53,12 +52,17 @@ stands-on plan start token columns n cycle cycle' old new stands same all le =
 abbrev pub KeptTo : (flow : Flow) (opening : Network) (plan : Plan) (start : Start) (columns : List (List ℕ)) (n begin t : ℕ) → IsToRunFrom plan start columns n flow → Type 0
 KeptTo flow opening plan start columns n begin t run = (k : ℕ) → begin ≤ k → k < t → TraysKeep opening (first_kept_tray (plan_bridges run.design.circuit run.design.tree run.request)) k (run_row run k)
 
+-- A window begins in this cycle, or it is the end of the run.
+abbrev pub IsBegun : (begin end begun : ℕ) → Type 0
+IsBegun begin end begun = (begun ≡ end) ⊎ ((windows : ℕ) × (begun ≡ begin + tray_rows * windows))
+
 -- The network has been run from its first cycle, `begin`, up to one, and each time it was to go on.
 pub record WindowsRan {T : Type 0} (takes : T → ℕ → List ℕ → T → Result Bool Ending → Type 0) (flow : Flow) (opening : Network) (first count begin : ℕ) (before now : T) (begun : ℕ) (net : Network) : Type 0 where
   pub frame : frame_of net ≡ frame_of opening
   pub all : AllStandAt begun net
   pub low : begin ≤ begun
   pub within : begun ≤ opening.end
+  pub begins : IsBegun begin opening.end begun
   pub went : WentBy takes before now (Ok true)
   pub took : (plan : Plan) (start : Start) (columns : List (List ℕ)) (n : ℕ) (run : IsToRunFrom plan start columns n flow) → IsOpeningFrom plan start (run_token run) columns n opening → start.cycle ≡ begin
       → AreTraysOf run first count → TookTo takes (run_row run) begin before (begun - begin) now
@@ -66,6 +70,9 @@ pub record WindowsRan {T : Type 0} (takes : T → ℕ → List ℕ → T → Res
       → KeptTo flow opening plan start columns n begin begun run
 
 -- ---- the rows of a window
+
+pub some-at : {T : Type 0} {takes : T → ℕ → List ℕ → T → Result Bool Ending → Type 0} {cycle : ℕ} {before after : T} {answer : Result Bool Ending} → TakesAt takes cycle before after answer → TakesSome takes before after answer
+some-at {cycle = cycle} at = record { cycle = cycle; row = at.row; took = at.took }
 
 -- The rows from `begun` on and before a cycle were taken.
 pub record RowsTaken {T : Type 0} (takes : T → ℕ → List ℕ → T → Result Bool Ending → Type 0) (flow : Flow) (net : Network) (begun upto first count : ℕ) (middle now : T) (cycle : ℕ) : Type 0 where
@@ -129,6 +136,7 @@ ran-start {takes = takes} {begin = begin} {before = before} all within =
       all = all;
       low = omega arith;
       within = within;
+      begins = inr (0, omega arith);
       went = went-none;
       took = λ plan start columns n run opens from counted. let none : 0 ≡ begin - begin = omega arith in subst (λ k. TookTo takes (run_row run) begin before k before) none refl;
       kept = λ plan start columns n run opens from k low lt. absurd (omega (arith, low, lt));
@@ -147,8 +155,8 @@ module _ {T : Type 0} {takes : T → ℕ → List ℕ → T → Result Bool Endi
         kept = λ t lt. ran.kept plan start columns n run opens from (begin + t) (omega arith) (omega (arith, lt, all));
       }
 
-  pub ran-out : opening.end ≤ begun → IsRanOut opening net true
-  ran-out past = let end : begun ≡ opening.end = omega (arith, past, ran.within) in record { frame = ran.frame; stands = λ e. subst (λ cycle. AllStandAt cycle net) end ran.all }
+  pub ran-out : opening.end ≤ begun → IsRanOut takes begin opening net now true
+  ran-out past = let end : begun ≡ opening.end = omega (arith, past, ran.within) in record { frame = ran.frame; stands = λ e. subst (λ cycle. AllStandAt cycle net) end ran.all; stopped = λ e. absurd (cc) }
 
   -- the next can't be run for want of memory
   pub ran-wants : {r : Result Bool Ending} → r ≡ Err NoMemory → TakesTheRun takes flow opening begin first count before now r
@@ -158,6 +166,34 @@ module _ {T : Type 0} {takes : T → ℕ → List ℕ → T → Result Bool Endi
         took = Wants (omega (arith, ran.within, ap (λ (x : Network). x.end) opens.is)) (ran.took plan start columns n run opens from counted) e;
         kept = λ t lt. ran.kept plan start columns n run opens from (begin + t) (omega arith) (omega (arith, lt));
       }
+
+  -- where the window ends that begins next, and the window of a cycle in it
+  next-begun : (upto : ℕ) → begun < opening.end → upto ≡ window_end begun opening.end → IsBegun begin opening.end upto
+  next-begun upto more ends =
+      ⊎_elim
+      (λ (last : opening.end < begun + tray_rows). inl (omega (arith, ends, last)))
+      (λ (other : begun + tray_rows ≤ opening.end). by other ran.begins)
+      (cases_lt opening.end (begun + tray_rows))
+    where
+      by : begun + tray_rows ≤ opening.end → IsBegun begin opening.end begun → IsBegun begin opening.end upto
+      by other (inl end) = absurd (omega (arith, more, end))
+      by other (inr (windows, is)) = inr (suc windows, omega (arith, ends, other, is))
+
+  -- a row of the window that begins next is the last: the network stands at its end
+  pub stops-in : (next : Network) (upto : ℕ) → begun < opening.end → upto ≡ window_end begun opening.end → AllStandAt upto next → (later : T) → IsLastOf takes begun upto later → StopsIn takes begin opening.end next later
+  stops-in next upto more ends all later last = by ran.begins
+    where
+      by : IsBegun begin opening.end begun → StopsIn takes begin opening.end next later
+      by (inl end) = absurd (omega (arith, more, end))
+      by (inr (windows, is)) =
+          record {
+            cycle = last.cycle;
+            before = last.before;
+            last = last.last;
+            upto = upto;
+            window = record { windows = windows; low = omega (arith, is, last.low); high = last.high; is = omega (arith, ends, is) };
+            stands = all;
+          }
 
   module _ (next : Network) (upto : ℕ) (more : begun < opening.end) (ends : upto ≡ window_end begun opening.end) (same : frame_of next ≡ frame_of net) (all : AllStandAt upto next) (stays : Kept flow next) (count' : ℕ) (counts : count' ≡ count) where
     low : begun ≤ upto
@@ -194,6 +230,7 @@ module _ {T : Type 0} {takes : T → ℕ → List ℕ → T → Result Bool Endi
           all = all;
           low = omega (arith, ran.low, low);
           within = most;
+          begins = next-begun upto more ends;
           went = went-on-so true (went-then ran.went went);
           took = λ plan start columns n run opens from counted.
               let so = window-so later (Ok goes_on) window plan start columns n run opens from counted in went-on takes (run_row run) begin before (upto - begin) so.0 later (Ok goes_on) (ap Ok on) so.1;

@@ -5,13 +5,14 @@ use Rattle.std.proofs.lemmas.List.{drop-map, length-map, take-map, take_all}
 use Rattle.gg_flat.specs.Circuit.{FlatCircuit}
 use Rattle.gg_flat.specs.Clock.{Ratio}
 use Rattle.gg_flat.specs.Line.{value_at}
-use Rattle.gg_flat.specs.Run.{row_at, column}
+use Rattle.gg_flat.specs.Run.{Start, row_at, column}
 use Rattle.gg_flat.specs.Streams.{Flow}
 use Rattle.gg_flat.specs.declared.ports.Port.{Port}
-use Rattle.gg_build.specs.inside.Build.{IsToRun, run_from_zeros}
+use Rattle.gg_build.specs.Build.{IsOpeningFrom, IsToRunFrom, run_token}
+use Rattle.gg_build.specs.inside.Build.{FromZeros}
 use Rattle.gg_cut_plan.specs.Seated.{first_kept_tray, plan_bridges}
 use Rattle.gg_cut_plan.specs.declared.plan.Plan.{Plan}
-use Rattle.gg_cut_reference.specs.Follows.{plan_start}
+use Rattle.gg_cut_reference.specs.Follows.{plan_token}
 use Rattle.gg_cut_reference.specs.whole.Whole.{plan_circuit}
 use Rattle.gg_trace.specs.Last.{acts, halts, row_count}
 use Rattle.gg_trace.specs.Printing.{row_line, trace_text}
@@ -19,7 +20,6 @@ use Rattle.gg_trace.specs.Table.{row_of}
 use Rattle.gg_trace.proofs.LastLaws.{rows-agree, rows-within}
 use Rattle.gg_rows.specs.Rows.{TraysKeep}
 use Rattle.gg_rows.specs.inside.Rows.{outputs_in}
-use Rattle.gg_rows.proofs.OpeningLemmas.{from-zeros}
 use Rattle.gg_rows.proofs.TrayKeepLemmas.{trays-only}
 use Rattle.gg_rows.specs.Printed.{AreKept, plan_stops}
 use Rattle.gg_rows.specs.inside.Printed.{is_halt, out_columns, rows_to, shown_columns, text_of}
@@ -33,8 +33,8 @@ rows-text ports a b (suc n) same =
     ap₂ (λ (front row : List ℕ). front ++ row_line ports (0 + n) row) (rows-text ports a b n (λ t lt. same t (omega (arith, lt)))) (ap (row_of a) there ∙ same n (omega arith) ∙ sym (ap (row_of b) there))
 
 -- what columns that come to the trays tell: as many rows as the run has, and its text
-module _ (plan : Plan) (columns : List (List ℕ)) (n : ℕ) (flow : Flow) (run : IsToRun plan columns n flow) (ports : List Port) (told : ℕ) (kept : List (List ℕ))
-    (are : AreKept plan columns n (first_kept_tray (plan_bridges run.design.circuit run.design.tree run.request)) told kept) (count : length kept ≡ length (plan_circuit run.design run.request run.models).outs)
+module _ (plan : Plan) (start : Start) (columns : List (List ℕ)) (n : ℕ) (flow : Flow) (run : IsToRunFrom plan start columns n flow) (zeros : FromZeros run) (ports : List Port) (told : ℕ) (kept : List (List ℕ))
+    (are : AreKept run.design run.request plan columns n told kept) (count : length kept ≡ length (plan_circuit run.design run.request run.models).outs)
     (ends : told ≡ row_count (halts (plan_stops run.design run.request) (drop (length ports) kept)) n) where
   abbrev stops : List Ratio
   stops = plan_stops run.design run.request
@@ -52,7 +52,8 @@ module _ (plan : Plan) (columns : List (List ℕ)) (n : ℕ) (flow : Flow) (run 
       let within : t < n = omega (arith, lt, ends, rows-within (halts stops (drop (length ports) kept)) n) in
       let wide : length (row_of kept t) ≡ length (plan_circuit run.design run.request run.models).outs = length-map kept (λ (column : List ℕ). slice_index column t) ∙ count in
       let outs : length (outputs_in all run.rows t) ≡ length all.outs = length-map all.outs (value_at (row_at run.rows t)) in
-      trays-only plan (plan_start run.design run.request) columns n flow (run_from_zeros run) are.opening (from-zeros plan columns n flow run are.opening are.opens) t (row_of kept t) (omega (arith, wide)) (subst (λ k. TraysKeep are.opening (first_kept_tray (plan_bridges run.design.circuit run.design.tree run.request)) k (row_of kept k)) there (are.rows t lt))
+      let opens : IsOpeningFrom plan start (run_token run) columns n are.opening = subst (λ (own : Start). IsOpeningFrom plan own (plan_token run.design run.request own.state) columns n are.opening) (sym zeros) are.opens in
+      trays-only plan start columns n flow run are.opening opens t (row_of kept t) (omega (arith, wide)) (subst (λ k. TraysKeep are.opening (first_kept_tray (plan_bridges run.design.circuit run.design.tree run.request)) k (row_of kept k)) there (are.rows t lt))
       ∙ take_all (length (row_of kept t)) (outputs_in all run.rows t) (omega (arith, wide, outs))
       ∙ outputs-row all run.rows t (omega (arith, within, run.given.run.count)) all.outs
 

@@ -28,8 +28,7 @@ use Rattle.gg_measure.proofs.NetLemmas.{allowed-of, begun-of, can-run}
 use Rattle.gg_measure.proofs.WayLemmas.{steps-up}
 use Rattle.gg_build.specs.plan.Built.{wires_of_plan}
 use Rattle.gg_bits.specs.Limits.{tray_rows}
-use Rattle.gg_build.specs.inside.Build.{IsOpeningFrom}
-use Rattle.gg_build.specs.Build.{IsToRunFrom, run_token}
+use Rattle.gg_build.specs.Build.{IsOpeningFrom, IsToRunFrom, run_token}
 use Rattle.gg_rows.specs.Rows.{TraysKeep}
 use Rattle.gg_rows.specs.inside.Rows.{outputs_in}
 use Rattle.gg_build.specs.StandsAt.{IsNetOfPlan}

@@ -83,3 +83,11 @@ early-not after (Last t lt middle took last counts ends) =
     let e = subst (λ (k : ℕ). ◌≡◌ {A = Result Bool Ending} (Ok false) (Ok (not (nat_eq k 2)))) at last.goes in absurd (cc)
 early-not after (Fails t lt middle took ending fails counts ends) = let e : Ok false ≡ Err ending = ends in absurd (cc)
 early-not after (Wants within took ends) = let e : Ok false ≡ Err NoMemory = ends in absurd (cc)
+
+-- a row too few isn't all of them
+few-not : (count : ℕ) → Took Counts row 0 2 count 0 1 (Ok true) → ⊥
+few-not count (All (middle, (start, took, first), last) counts ends) =
+    let begun : start ≡ 0 = took in let one : middle ≡ suc start = first.counts in let two : 1 ≡ suc middle = last.counts in absurd (omega (arith, begun, one, two))
+few-not count (Last t lt middle took last counts ends) = let e : Ok true ≡ Ok false = ends in absurd (cc)
+few-not count (Fails t lt middle took ending fails counts ends) = let e : Ok true ≡ Err ending = ends in absurd (cc)
+few-not count (Wants within took ends) = let e : Ok true ≡ Err NoMemory = ends in absurd (cc)

@@ -4,6 +4,7 @@
 use Rattle.std.specs.Prelude.{ℕ, ◌<◌, ◌+◌, List}
 use Rattle.gg_build.specs.Build.{IsOpeningOf}
 use Rattle.gg_cut_plan.specs.Clocks.{ratios_of, stop_ratios}
+use Rattle.gg_cut_plan.specs.Seated.{first_kept_tray, plan_bridges}
 use Rattle.gg_cut_plan.specs.declared.plan.Plan.{Plan}
 use Rattle.gg_flat.specs.Clock.{Ratio}
 use Rattle.gg_flat.specs.Run.{column}
@@ -21,9 +22,9 @@ plan_stops design request = stop_ratios design.tree (ratios_of design.tree reque
 abbrev pub RowsAreKept : (opening : Network) (first begin n : ℕ) (kept : List (List ℕ)) → Type 0
 RowsAreKept opening first begin n kept = (t : ℕ) → t < n → TraysKeep opening first (begin + t) (row_of kept (begin + t))
 
--- The network of a plan before its first cycle is such a network. `columns` are those of the top's inputs, `told` is the number of
--- rows that come to the trays, and `kept` has a column for each tray.
-pub record AreKept (plan : Plan) (columns : List (List ℕ)) (n first told : ℕ) (kept : List (List ℕ)) : Type 0 where
+-- The network of the plan of a design and a request before its first cycle is such a network. `columns` are those of the top's inputs,
+-- `told` is the number of rows that come to the trays of the outputs that no bridge sees, and `kept` has a column for each tray.
+pub record AreKept (design : Ordered) (request : Request) (plan : Plan) (columns : List (List ℕ)) (n told : ℕ) (kept : List (List ℕ)) : Type 0 where
   pub opening : Network
-  pub opens : IsOpeningOf plan columns n opening
-  pub rows : RowsAreKept opening first 0 told kept
+  pub opens : IsOpeningOf design request plan columns n opening
+  pub rows : RowsAreKept opening (first_kept_tray (plan_bridges design.circuit design.tree request)) 0 told kept

@@ -3,11 +3,11 @@ ghost use Rattle.std.specs.Prelude.{ℕ, ◌+◌, ◌≤◌, List};
 ghost use Rattle.gg_flat.specs.Run.{Start};
 ghost use Rattle.gg_cut_plan.specs.declared.plan.Plan.{Plan};
 ghost use Rattle.gg_net.specs.Network.{Network};
-ghost use Rattle.gg_build.specs.inside.Build.{IsOpeningFrom};
+ghost use Rattle.gg_build.specs.Build.{IsOpeningFrom};
 ghost use Rattle.gg_bits.specs.Limits.{tray_rows};
 ghost use Rattle.gg_build.specs.StandsAt.{IsNetOfPlan};
 ghost use Rattle.gg_rows.specs.inside.Window.{window_end};
-ghost use Rattle.gg_rows.specs.inside.NetOfPlan.{NetsStayOfThePlan, OpeningsAreKept, TraysGetNothingElse, TraysGetTheOutputs, ZerosAreAStart};
+ghost use Rattle.gg_rows.specs.inside.NetOfPlan.{NetsStayOfThePlan, OpeningsAreKept, TraysGetNothingElse, TraysGetTheOutputs};
 
 /// The network of a plan before its first step is a network of the plan.
 pub fn openings_are_nets()
@@ -17,11 +17,6 @@ pub fn openings_are_nets()
 /// It is kept: all that holds of a network at all times holds of it.
 pub fn openings_are_kept()
     ensures { OpeningsAreKept }
-{}
-
-/// The network of a plan before its first cycle, with zeros, is one that begins with the start of the whole run.
-pub fn zeros_are_a_start()
-    ensures { ZerosAreAStart }
 {}
 
 /// A network of a plan stays one as long as its frame stays.

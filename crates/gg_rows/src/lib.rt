@@ -33,6 +33,7 @@
 
 mod circuit;
 mod digits;
+mod effort;
 mod fold;
 mod laws;
 mod lines;
@@ -53,7 +54,6 @@ pub use circuit::circuit_text;
 pub use fold::Fold;
 pub use laws::{
     openings_are_kept, openings_are_nets, steps_keep_nets, trays_keep_rows, windows_are_kept,
-    zeros_are_a_start,
 };
 pub use lines::put_summary;
 pub use partition::partition_text;

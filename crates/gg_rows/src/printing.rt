@@ -63,6 +63,7 @@ pub fn print_from<R: Threads + Sync, B: Bridge + Send + Drop, Z: Streams, K: Sin
         net,
         begin,
         workers,
+        trays.work,
         trays.first,
         values.as_mut_slice(),
         &printer,
@@ -96,7 +97,7 @@ pub fn print_net<R: Threads + Sync, B: Bridge + Send + Drop, Z: Streams, K: Sink
 ) -> Result<(), Ending>
     requires few { workers ≤ 64 }
     requires bridges { HasBridges B.piece B.state plan.now bridges.items }
-    requires run { (run : IsToRun plan.now inputs.now.columns inputs.now.rows Z.flow) × ((run.design ≡ design.now) × (length ports.now ≤ length (plan_circuit run.design run.request run.models).outs)) }
+    requires run { (run : IsToRun plan.now inputs.now.columns inputs.now.rows Z.flow) × ((run.run.design ≡ design.now) × (length ports.now ≤ length (plan_circuit run.run.design run.run.request run.run.models).outs)) }
     ensures prints { PrintsTheRun Z.flow design.now plan.now inputs.now.columns inputs.now.rows ports.now K.Sink out.old out.new result }
     ensures kept { IfOk result (λ done. RunIsKept Z.flow design.now plan.now inputs.now.columns inputs.now.rows ports.now) }
     ensures out { SinkWentOn K.Sink out.old out.new }

@@ -1,13 +1,14 @@
 //! `run_rows`: a network is run window by window, and its rows are handed over.
-ghost use Rattle.std.specs.Prelude.{◌+◌, ◌≤◌, IfOk, length};
+ghost use Rattle.std.specs.Prelude.{◌≡◌, ◌+◌, ◌≤◌, IfOk, false, length};
 ghost use Rattle.gg_bits.specs.Limits.{cycle_limit};
 ghost use Rattle.gg_net.specs.Network.{AllStandAt};
 ghost use Rattle.gg_rows.specs.inside.RunTaken.{TakesTheRow, TakesTheRun, TakesTheWindow};
-ghost use Rattle.gg_rows.specs.inside.Taken.{IsRanOut, TakesSome, WentBy, answer_of};
+ghost use Rattle.gg_rows.specs.inside.Taken.{IsLastOf, IsRanOut, TakesAt, WentBy, answer_of};
 
+use crate::effort::workers_at;
 use crate::rows::output_values;
 use crate::taking::Rows;
-use crate::window::{run_window, window_end};
+use crate::window::{note_window, run_window, window_end};
 use gg_bridge::Bridge;
 use gg_build::Node;
 use gg_io::{Ending, Gate};
@@ -31,7 +32,7 @@ fn take_cycle<B: Bridge + Send + Drop, Z: Streams, T, W: Rows<T>>(
     requires outs { first + length outs.old ≤ length net.now.machines }
     requires can { W.can_take rows.now (length outs.old) }
     ensures row { TakesTheRow (W.takes rows.now) Z.flow net.now first (length outs.old) cycle taken.old taken.new result }
-    ensures some { TakesSome (W.takes rows.now) taken.old taken.new result }
+    ensures at { TakesAt (W.takes rows.now) cycle taken.old taken.new result }
 {
     output_values(net, first, cycle, outs);
     rows.take(taken, cycle, outs)
@@ -52,6 +53,7 @@ fn take_window<B: Bridge + Send + Drop, Z: Streams, T, W: Rows<T>>(
     requires can { W.can_take rows.now (length outs.old) }
     ensures rows { TakesTheWindow (W.takes rows.now) Z.flow net.now first (length outs.old) begun upto taken.old taken.new result }
     ensures went { WentBy (W.takes rows.now) taken.old taken.new result }
+    ensures last { IfOk result (λ on. on ≡ false → IsLastOf (W.takes rows.now) begun upto taken.new) }
 {
     for cycle in begun..upto {
         let goes_on = take_cycle(net, first, cycle, outs, rows, taken)?;
@@ -70,11 +72,11 @@ fn order_of<H: Host, Z: Streams>(alloc: Global, net: &Net<H, Z>) -> Order {
     }
 }
 
-/// Runs a network from its first cycle on, which is `begin`, window by window: by this many workers, and then by steps in the fixed
-/// order. After each window it hands over the rows of its cycles: the values of the out-signals of the plan's circuit, which the trays keep,
-/// from number `first` on. It ends with the
+/// Runs a network from its first cycle on, which is `begin`, window by window: by this many workers, and then by steps in the order of the
+/// network. `work` is how much it does in a cycle: where that is little, only the first window has workers. After each window it hands over
+/// the rows of its cycles: the values of the out-signals of the plan's circuit, which the trays keep, from number `first` on. It ends with the
 /// network, or with a row after which it isn't to go on; no window begins then. Returns the network, and whether all rows were taken. If
-/// they were, all machines stand at the network's end.
+/// they were, all machines stand at the network's end; otherwise they stand at the end of the window of the last row.
 ///
 /// # Errors
 ///
@@ -93,6 +95,7 @@ pub fn run_rows<
     net: Net<Node<'n, B>, Z>,
     begin: u64,
     workers: u32,
+    work: u64,
     first: usize,
     outs: &mut [u128],
     rows: &W,
@@ -105,7 +108,7 @@ pub fn run_rows<
     requires outs { first + length outs.old ≤ length net.machines }
     requires can { W.can_take rows.now (length outs.old) }
     ensures ran { TakesTheRun (W.takes rows.now) Z.flow net.entry begin first (length outs.old) taken.old taken.new (answer_of result) }
-    ensures out { IfOk result (λ r. IsRanOut net.entry r.0 r.1) }
+    ensures out { IfOk result (λ r. IsRanOut (W.takes rows.now) begin net.entry r.0 taken.new r.1) }
     ensures went { WentBy (W.takes rows.now) taken.old taken.new (answer_of result) }
 {
     net.within_limits();
@@ -115,12 +118,14 @@ pub fn run_rows<
     let mut begun = begin;
     while begun < end {
         let upto = window_end(begun, end);
+        let hands = workers_at(begun == begin, workers, work);
+        note_window(&mut net, &mut order, hands, upto);
         net = match run_window::<R, Node<'n, B>, Ring, Z, G>(
             rt,
             (),
             alloc,
             net,
-            workers,
+            hands,
             upto,
             &mut order,
             gate,

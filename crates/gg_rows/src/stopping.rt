@@ -80,6 +80,7 @@ pub fn run_to_stop<'n, R: Threads + Sync, B: Bridge + Send + Drop, Z: Streams, G
         net,
         0,
         workers,
+        trays.work,
         trays.first,
         values.as_mut_slice(),
         &watch,

@@ -1,7 +1,9 @@
 //! The network of a plan is built, counted and run, and its rows are folded.
 ghost use Rattle.std.specs.Prelude.{◌≡◌, ◌≤◌, IfOk, length};
 ghost use Rattle.gg_cut_reference.specs.whole.Whole.{plan_circuit};
-ghost use Rattle.gg_build.specs.inside.Build.{HasBridges, IsToRun};
+ghost use Rattle.gg_flat.specs.Run.{Start};
+ghost use Rattle.gg_build.specs.Build.{IsToRunFrom};
+ghost use Rattle.gg_build.specs.inside.Build.{FromZeros, HasBridges, IsToRun};
 ghost use Rattle.gg_rows.specs.inside.Sums.{AreSums, FoldsRow};
 
 use crate::Fold;
@@ -64,9 +66,9 @@ pub fn sum_net<R: Threads + Sync, B: Bridge + Send + Drop, Z: Streams, G: Gate +
     gate: &G,
 ) -> Result<Sums, AllocError>
     requires few { workers ≤ 64 }
-    requires run { (run : IsToRun plan.now inputs.now.columns inputs.now.rows Z.flow) × ((run.design ≡ _design.now) × (2 ≤ length (plan_circuit run.design run.request run.models).outs)) }
+    requires run { (run : IsToRun plan.now inputs.now.columns inputs.now.rows Z.flow) × ((run.run.design ≡ _design.now) × (2 ≤ length (plan_circuit run.run.design run.run.request run.run.models).outs)) }
     requires bridges { HasBridges B.piece B.state plan.now bridges.items }
-    ensures { IfOk result (λ sums. (run : IsToRun plan.now inputs.now.columns inputs.now.rows Z.flow) → run.design ≡ _design.now → AreSums plan.now inputs.now.columns inputs.now.rows Z.flow run sums) }
+    ensures { IfOk result (λ sums. (start : Start) (run : IsToRunFrom plan.now start inputs.now.columns inputs.now.rows Z.flow) → FromZeros run → run.design ≡ _design.now → AreSums run sums) }
 {
     let trays = trays_of(plan);
     let mut outs = vec![in alloc; 0u128; trays.count]?;
@@ -82,6 +84,7 @@ pub fn sum_net<R: Threads + Sync, B: Bridge + Send + Drop, Z: Streams, G: Gate +
         net,
         0,
         workers,
+        trays.work,
         trays.first,
         outs.as_mut_slice(),
         &Folding,

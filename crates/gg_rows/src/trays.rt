@@ -1,9 +1,10 @@
-//! `Trays`: which machines of a plan are trays.
+//! `Trays`: which machines of a plan are trays, and how much its network does in a cycle.
 ghost use Rattle.std.specs.Prelude.{◌≡◌, ◌≤◌, length};
 ghost use Rattle.std.specs.List.{prefix_len};
 ghost use Rattle.gg_rows.specs.inside.Trays.{is_inner, is_tray};
 ghost use Rattle.gg_rows.specs.inside.RunPrinted.{IsFirstTray, IsTrayCount};
 
+use crate::effort::work_of;
 use gg_cut_plan::{Body, Machine, Plan};
 
 /// The trays of a plan: they stand one behind another.
@@ -13,6 +14,8 @@ pub struct Trays {
     pub first: usize,
     /// How many there are.
     pub count: usize,
+    /// How much the plan's network does in a cycle: its signals, and four times its channels.
+    pub work: u64,
 }
 
 // Whether a machine is before the trays: it is neither a tray nor a bridge.
@@ -70,5 +73,6 @@ pub fn trays_of(plan: &Plan) -> Trays
     let machines = plan.machines.as_slice();
     let first = inner_len(machines);
     let count = trays_len(&machines[first..]);
-    Trays { first, count }
+    let work = work_of(plan);
+    Trays { first, count, work }
 }

@@ -8,7 +8,7 @@ use gg_bits::TRAY_ROWS;
 use gg_flat::Streams;
 use gg_io::Gate;
 use gg_link::Link;
-use gg_measure::{Order, run_by};
+use gg_measure::{Order, note_cycle, run_by};
 use gg_net::Net;
 use gg_node::Host;
 use gg_workers::work;
@@ -28,6 +28,21 @@ pub fn window_end(begun: u64, end: u64) -> u64
     }
 }
 
+// Notes the steps of the next cycle, for workers to go by, if there are workers and no cycle was noted.
+pub(crate) fn note_window<H: Host, Z: Streams>(
+    net: &mut Net<H, Z>,
+    order: &mut Order,
+    workers: u32,
+    upto: u64,
+)
+    ensures { GoesWithin upto net.old net.new }
+{
+    if workers == 0 {
+        return;
+    }
+    note_cycle(net, order, upto);
+}
+
 // Lets workers run a network up to a cycle.
 fn run_workers<R: Threads + Sync, H: Host, L: Link, Z: Streams, G: Gate + Sync>(
     rt: &R,
@@ -36,6 +51,7 @@ fn run_workers<R: Threads + Sync, H: Host, L: Link, Z: Streams, G: Gate + Sync>(
     net: Net<H, Z>,
     workers: u32,
     upto: u64,
+    order: &Order,
     gate: &G,
 ) -> Result<Net<H, Z>, (Net<H, Z>, AllocError)>
     requires { workers ≤ 64 }
@@ -43,11 +59,11 @@ fn run_workers<R: Threads + Sync, H: Host, L: Link, Z: Streams, G: Gate + Sync>(
     ensures refused { IfErr result (λ r. r.0 ≡ net) }
 {
     net.kept();
-    work::<R, H, L, Z, G>(rt, home, alloc, net, workers, upto, gate)
+    work::<R, H, L, Z, G>(rt, home, alloc, net, workers, upto, order, gate)
 }
 
-/// Runs a network up to a cycle, the end of a window: by this many workers first, and then cycle by cycle, by an order that
-/// is remembered, until all machines stand there. With no workers all steps are done so.
+/// Runs a network up to a cycle, the end of a window: by this many workers first, who go by an order that is remembered, and
+/// then cycle by cycle, by the same order, until all machines stand there. With no workers all steps are done so.
 ///
 /// # Errors
 ///
@@ -69,7 +85,7 @@ pub fn run_window<R: Threads + Sync, H: Host, L: Link, Z: Streams, G: Gate + Syn
     ensures within { IfOk result (GoesWithin upto net) }
     ensures refused { IfErr result (λ r. r.0 ≡ net) }
 {
-    match run_workers::<R, H, L, Z, G>(rt, home, alloc, net, workers, upto, gate) {
+    match run_workers::<R, H, L, Z, G>(rt, home, alloc, net, workers, upto, order, gate) {
         Ok(mut net) => {
             run_by(&mut net, order, upto);
             Ok(net)

@@ -24,10 +24,9 @@ pub(crate) fn check_second<'a>(
 {
     let mut all = Vec::new(alloc);
     for number in 0..names.circuit().modules().len() {
+        all.reserve(1)?;
         let connected = connected_in(alloc, names, number as u32)?;
-        if let Err(refused) = all.push(connected) {
-            return Err(AllocError::from(refused).into());
-        }
+        all.push_reserved(connected);
     }
     Ok(all)
 }

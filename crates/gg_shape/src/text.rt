@@ -1,9 +1,11 @@
 //! How faults are printed.
-ghost use Rattle.std.specs.Prelude.{◌≡◌};
-ghost use Rattle.gg_shape.specs.FaultText.{word_name, key_name, limit_name};
+ghost use Rattle.std.specs.Prelude.{◌≡◌, ◌∷◌, ◌++◌};
+ghost use Rattle.std.specs.Fmt.{WritesOnOk};
+ghost use Rattle.gg_shape.specs.FaultText.{behind_blanks, key_name, limit_name, on_line, word_name};
 
 use crate::fault::{CheckFault, Fault, Limit, MemoryKey, Word};
 use gg_ast::Report;
+use gg_bits::Name;
 use std::error::Error;
 use std::fmt;
 
@@ -17,35 +19,21 @@ impl fmt::Display for Fault {
     fn fmt<W: fmt::Write>(&self, f: &mut fmt::Formatter<W>) -> fmt::Result {
         match self {
             Fault::MissingTop { name } => write!(f, "F1 {name}"),
-            Fault::RepeatedName { line, name } => write!(f, "F2 line {line} {name}"),
-            Fault::UnknownName { line, name } => write!(f, "F3 line {line} {name}"),
-            Fault::SecondConnection { line, name } => write!(f, "F4 line {line} {name}"),
-            Fault::Unconnected { line, name } => write!(f, "F5 line {line} {name}"),
-            Fault::ConnectedSource { line, name } => write!(f, "F6 line {line} {name}"),
-            Fault::ModuleRing { modules } => {
-                f.write_str("F7")?;
-                for name in modules.as_slice() {
-                    write!(f, " {name}")?;
-                }
-                Ok(())
-            }
-            Fault::MemoryField { line, key } => write!(f, "F8 line {line} {}", key_text(*key)),
-            Fault::WrongKind { line, word } => write!(f, "F9 line {line} {}", word_text(*word)),
+            Fault::RepeatedName { line, name } => write_about(f, "F2", *line, name.as_str()),
+            Fault::UnknownName { line, name } => write_about(f, "F3", *line, name.as_str()),
+            Fault::SecondConnection { line, name } => write_about(f, "F4", *line, name.as_str()),
+            Fault::Unconnected { line, name } => write_about(f, "F5", *line, name.as_str()),
+            Fault::ConnectedSource { line, name } => write_about(f, "F6", *line, name.as_str()),
+            Fault::ModuleRing { modules } => write_names(f, "F7", modules.as_slice()),
+            Fault::MemoryField { line, key } => write_about(f, "F8", *line, key_text(*key)),
+            Fault::WrongKind { line, word } => write_about(f, "F9", *line, word_text(*word)),
             Fault::WrongWidth { line, width } => write!(f, "F10 line {line} {width}"),
-            Fault::WrongParameter { line, word } => {
-                write!(f, "F11 line {line} {}", word_text(*word))
-            }
+            Fault::WrongParameter { line, word } => write_about(f, "F11", *line, word_text(*word)),
             Fault::LiteralTooLarge { line } => write!(f, "F12 line {line}"),
             Fault::TooWide { line, source, sink } => write!(f, "F13 line {line} {source} {sink}"),
-            Fault::WrongClock { line, name } => write!(f, "F14 line {line} {name}"),
+            Fault::WrongClock { line, name } => write_about(f, "F14", *line, name.as_str()),
             Fault::OverLimit { limit, count } => write!(f, "F15 {} {count}", limit_text(*limit)),
-            Fault::Loop { paths } => {
-                f.write_str("F16")?;
-                for path in paths.as_slice() {
-                    write!(f, " {path}")?;
-                }
-                Ok(())
-            }
+            Fault::Loop { paths } => write_names(f, "F16", paths.as_slice()),
         }
     }
 }
@@ -68,6 +56,29 @@ impl fmt::Display for CheckFault {
 }
 
 impl Error for CheckFault {}
+
+// Writes a code, a line, and what the fault is about.
+fn write_about<W: fmt::Write>(
+    f: &mut fmt::Formatter<W>,
+    code: &str,
+    line: u64,
+    about: &str,
+) -> fmt::Result
+    ensures { WritesOnOk W.Write.write_str_gives f.old result (on_line code.now line ++ 32 ∷ about.now) f.new }
+{
+    write!(f, "{code} line {line} {about}")
+}
+
+// Writes a code, and names with a blank before each.
+fn write_names<W: fmt::Write>(f: &mut fmt::Formatter<W>, code: &str, names: &[Name]) -> fmt::Result
+    ensures { WritesOnOk W.Write.write_str_gives f.old result (code.now ++ behind_blanks names.now) f.new }
+{
+    f.write_str(code)?;
+    for name in names {
+        write!(f, " {name}")?;
+    }
+    Ok(())
+}
 
 // The first word of a field of a memory.
 fn key_text(key: MemoryKey) -> &'static str

@@ -11,7 +11,8 @@
 --      9        writer => w
 --     10        reader => r
 --     11      wire n : UInt<8>
-use Rattle.std.proofs.Common.{◌≡◌, ℕ, List, [], ◌∷◌, Some, None, codes, refl, false}
+use Rattle.std.proofs.Common.{◌≡◌, ℕ, List, [], ◌∷◌, Some, None, codes, refl, false, ◌<◌, take, inl, inr, arith, lit<}
+use Rattle.std.specs.Prelude.{◌⊎◌, Contains, flat_map}
 use Rattle.gg_ast.specs.declared.expression.Reference.{Reference}
 use Rattle.gg_ast.specs.declared.expression.Reference.TheVariants.{Local, PortOf, FieldOf}
 use Rattle.gg_ast.specs.declared.module.Direction.TheVariants.{Input, Output}
@@ -145,3 +146,19 @@ port_alone = refl
 -- the data of a writer is given to the memory: `m.w.data` is no source
 data_no_source : is_source (meaning_of (scope_of modules (parent_with (mem_m ∷ []))) (field (codes "w") (codes "data"))) ≡ false
 data_no_source = refl
+
+-- ---- instances that are found one after another
+
+-- two modules, and an instance of each
+abbrev each : List ModuleTree
+each = child ∷ parent_with [] ∷ []
+
+abbrev instances : List Stmt
+instances = inst_i ∷ on 8 (statement.Instance (codes "k") (codes "P")) ∷ []
+
+held_each : flat_map (held_by each) instances ≡ 0 ∷ 1 ∷ []
+held_each = refl
+
+-- what is looked at next after the first instance is the second, which isn't passed over
+not_passed : ((j : ℕ) → Contains (flat_map (held_by each) (take 2 instances)) j → Contains (flat_map (held_by each) (take 0 instances)) j ⊎ (j ≡ 0)) → ⊥
+not_passed first = elim (first 1 (1, lit< tt, refl)) [ inl none ↦ (let never : none.0 < 0 = none.1 in absurd (omega (arith, never))) | inr same ↦ absurd (omega (arith, same)) ]

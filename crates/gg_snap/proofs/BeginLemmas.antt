@@ -1,13 +1,13 @@
 -- A network can begin with a snapshot.
 use Rattle.std.proofs.Common.{◌≡◌, ℕ, ◌+◌, ◌<◌, ◌≤◌, List, [], length, get_or, Some, sym, ap, ap₂, ◌∙◌, subst, arith}
-use Rattle.std.specs.Prelude.{All}
+use Rattle.std.specs.Prelude.{All, Option, unwrap_or}
 use Rattle.std.proofs.lemmas.List.{length-map}
 use Rattle.gg_bits.specs.Shape.{shape}
 use Rattle.gg_flat.specs.declared.piece.Register.{Register}
 use Rattle.gg_flat.specs.Circuit.{FlatCircuit}
 use Rattle.gg_flat.specs.Line.{value_at}
 use Rattle.gg_flat.specs.Run.{Start}
-use Rattle.gg_flat.specs.State.{State}
+use Rattle.gg_flat.specs.State.{State, opening}
 use Rattle.gg_flat.specs.Streams.{Flow}
 use Rattle.gg_order.specs.Design.{Ordered}
 use Rattle.gg_cut_plan.specs.declared.plan.Channel.{Channel}
@@ -62,7 +62,7 @@ module _ (plan : Plan) (design : Ordered) (cycle : ℕ) (state : State) (start :
     pub begins : Begins can.run.design can.run.request plan start begin
     begins = record {
       cycle = begun ∙ sym can.at_cycle;
-      state = has ∙ ap Some (sym can.in_state);
+      state = can.in_state ∙ sym (ap (λ (told : Option State). unwrap_or told (opening (plan_reference can.run.design can.run.request))) has);
       tokens = λ c any lt pipe.
           tokens c any lt pipe
           ∙ sym (token-is can.run.design can.run.request can.run.models can.run.default plan (run-alone can.run can.alone).planned (run-alone can.run can.alone).design_is (run-alone can.run can.alone).keeps (run-alone can.run can.alone).faultless c any lt pipe start.state
@@ -71,15 +71,4 @@ module _ (plan : Plan) (design : Ordered) (cycle : ℕ) (state : State) (start :
     }
 
     pub to-begin : IsToBegin plan begin columns n flow
-    to-begin = record {
-      design = can.run.design;
-      request = can.run.request;
-      models = can.run.models;
-      default = can.run.default;
-      start = start;
-      rows = can.run.rows;
-      given = can.run.given;
-      room = can.run.room;
-      begins = begins;
-      flow_is = can.run.flow_is;
-    }
+    to-begin = record { start = start; run = can.run; begins = begins }

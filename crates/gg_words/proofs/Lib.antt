@@ -1,4 +1,5 @@
 pub mod TextLaws
+pub mod LineLaws
 pub mod NumberLaws
 pub mod FileLaws
 pub mod KindLaws

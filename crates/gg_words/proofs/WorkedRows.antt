@@ -1,7 +1,8 @@
 -- Command lines worked by hand: what each means, or the kinds by which `clap` may refuse it.
-use Rattle.std.proofs.Common.{◌≡◌, List, [], ◌∷◌, Ok, Err, true, false, refl, codes}
+use Rattle.std.proofs.Common.{◌≡◌, List, [], ◌∷◌, Ok, Err, true, false, refl, subst, inl, inr, codes}
 use Rattle.clap.specs.Walk.{Text}
 use Rattle.clap.specs.Faults.{fault_of}
+use Rattle.clap.specs.Kinds.{IsAmong}
 use Rattle.clap.specs.declared.error.kind.ErrorKind.TheVariants as kind
 use Rattle.clap.proofs.OnLiterals.{clap_on_literals}
 use Rattle.gg_words.specs.Line.{golden_app}
@@ -237,3 +238,11 @@ nothing = refl
 other-name : Says (codes "--mono" ∷ codes "check" ∷ codes "c" ∷ codes "p" ∷ []) (Ok (Check (codes "c") (codes "p") 2))
 unfolding clap_on_literals
 other-name = record { taken = refl; found = refl }
+
+-- so an option that comes twice isn't refused as a wrong value
+not-invalid : IsAmong kind.InvalidValue (fault_of golden_app (line (codes "run" ∷ codes "c" ∷ codes "p" ∷ codes "t" ∷ codes "--mono" ∷ codes "--mono" ∷ []))) → ⊥
+not-invalid among = by (subst (IsAmong kind.InvalidValue) mono-twice among)
+  where
+    by : IsAmong kind.InvalidValue (kind.ArgumentConflict ∷ []) → ⊥
+    by (inl is) = absurd (cc)
+    by (inr among) = among

@@ -1,117 +1,125 @@
 //! The command line as `clap` reads it.
-ghost use Rattle.std.specs.Prelude.{◌≡◌, [], ◌∷◌, IfOk, true, false, codes};
+ghost use Rattle.std.specs.Prelude.{◌≡◌, IfOk, false};
 ghost use Rattle.clap.specs.Walk.{rule_of};
-ghost use Rattle.clap.specs.Simple.{app_of, new_app, with_rule, shape_of};
+ghost use Rattle.clap.specs.Simple.{app_of, new_app, shape_of};
 ghost use Rattle.clap.specs.declared.builder.command.Command.TheViews.{out-Command};
-ghost use Rattle.gg_words.specs.Line.{word_rule, value_rule, flag_rule, run_shape, replay_shape, check_shape, demo_shape, save_shape, resume_shape, golden_app};
+ghost use Rattle.gg_words.specs.Line.{golden_app};
+ghost use Rattle.gg_words.specs.inside.Line.{IsReadAs, bare_app, rule_for, shape_for, with_commands, with_rules};
 
+use Kind::{Flag, Value, Word};
 use clap::{Arg, ArgAction, Command};
 use std::alloc::{AllocError, Global};
 
-// A word that stands by its place, and is required.
-fn word<'a>(alloc: Global, id: &'a str) -> Arg<'a>
-    ensures rule { rule_of result ≡ word_rule id.entry.now }
+// How an argument is given.
+#[derive(Clone, Copy)]
+pub(crate) enum Kind {
+    // By its place. It is required.
+    Word,
+    // After its name, with a value.
+    Value,
+    // By its name alone.
+    Flag,
+}
+
+// A command's name, and its arguments.
+type Line = (&'static str, &'static [(Kind, &'static str)]);
+
+// The commands.
+static COMMANDS: [Line; 6] = [
+    (
+        "run",
+        &[
+            (Word, "circuit"),
+            (Word, "partition"),
+            (Word, "trace"),
+            (Value, "capacity"),
+            (Value, "workers"),
+            (Flag, "mono"),
+        ],
+    ),
+    (
+        "replay",
+        &[
+            (Word, "circuit"),
+            (Word, "partition"),
+            (Word, "trace"),
+            (Word, "steps"),
+            (Value, "capacity"),
+        ],
+    ),
+    (
+        "check",
+        &[(Word, "circuit"), (Word, "partition"), (Value, "capacity")],
+    ),
+    (
+        "demo",
+        &[(Word, "seed"), (Word, "size"), (Value, "workers")],
+    ),
+    (
+        "save",
+        &[
+            (Word, "circuit"),
+            (Word, "partition"),
+            (Word, "trace"),
+            (Word, "at"),
+            (Value, "capacity"),
+            (Value, "workers"),
+        ],
+    ),
+    (
+        "resume",
+        &[
+            (Word, "circuit"),
+            (Word, "partition"),
+            (Word, "trace"),
+            (Word, "snap"),
+            (Value, "capacity"),
+            (Value, "workers"),
+        ],
+    ),
+];
+
+// An argument of this kind.
+fn argument<'a>(alloc: Global, kind: Kind, name: &'a str) -> Arg<'a>
+    ensures rule { rule_of result ≡ rule_for kind name.entry.now }
     ensures local { result.global ≡ false }
 {
-    Arg::new(alloc, id).required(true)
+    let argument = Arg::new(alloc, name);
+    match kind {
+        Word => argument.required(true),
+        Value => argument.long(name),
+        Flag => argument.long(name).action(ArgAction::SetTrue),
+    }
 }
 
-// An option with a value.
-fn value<'a>(alloc: Global, name: &'a str) -> Arg<'a>
-    ensures rule { rule_of result ≡ value_rule name.entry.now }
-    ensures local { result.global ≡ false }
+// A command with these arguments.
+fn command<'a>(
+    alloc: Global,
+    name: &'a str,
+    arguments: &'static [(Kind, &'static str)],
+) -> Result<Command<'a>, AllocError>
+    ensures { IfOk result (IsReadAs (with_rules (new_app name.entry.now) arguments.now)) }
 {
-    Arg::new(alloc, name).long(name)
+    let mut command = Command::new(alloc, name);
+    for &(kind, id) in arguments {
+        command = command.arg(argument(alloc, kind, id))?;
+    }
+    Ok(command)
 }
 
-// An option without a value.
-fn flag<'a>(alloc: Global, name: &'a str) -> Arg<'a>
-    ensures rule { rule_of result ≡ flag_rule name.entry.now }
-    ensures local { result.global ≡ false }
-{
-    Arg::new(alloc, name).long(name).action(ArgAction::SetTrue)
-}
-
-// A command with the files that each command but `demo` has.
-fn with_files<'a>(alloc: Global, name: &'a str) -> Result<Command<'a>, AllocError>
-    ensures shape { IfOk result (λ c. app_of c ≡ with_rule (with_rule (new_app name.entry.now) (word_rule (codes "circuit"))) (word_rule (codes "partition"))) }
+// The command of this line.
+fn line_command<'a>(alloc: Global, line: &Line) -> Result<Command<'a>, AllocError>
+    ensures shape { IfOk result (λ c. shape_of c ≡ shape_for line.now) }
     ensures local { IfOk result (λ c. (out-Command c).has_globals ≡ false) }
 {
-    Command::new(alloc, name)
-        .arg(word(alloc, "circuit"))?
-        .arg(word(alloc, "partition"))
-}
-
-// The command `run`.
-fn run_line<'a>(alloc: Global) -> Result<Command<'a>, AllocError>
-    ensures shape { IfOk result (λ c. shape_of c ≡ run_shape) }
-    ensures local { IfOk result (λ c. (out-Command c).has_globals ≡ false) }
-{
-    with_files(alloc, "run")?
-        .arg(word(alloc, "trace"))?
-        .arg(value(alloc, "capacity"))?
-        .arg(value(alloc, "workers"))?
-        .arg(flag(alloc, "mono"))
-}
-
-// The command `replay`.
-fn replay_line<'a>(alloc: Global) -> Result<Command<'a>, AllocError>
-    ensures shape { IfOk result (λ c. shape_of c ≡ replay_shape) }
-    ensures local { IfOk result (λ c. (out-Command c).has_globals ≡ false) }
-{
-    with_files(alloc, "replay")?
-        .arg(word(alloc, "trace"))?
-        .arg(word(alloc, "steps"))?
-        .arg(value(alloc, "capacity"))
-}
-
-// The command `check`.
-fn check_line<'a>(alloc: Global) -> Result<Command<'a>, AllocError>
-    ensures shape { IfOk result (λ c. shape_of c ≡ check_shape) }
-    ensures local { IfOk result (λ c. (out-Command c).has_globals ≡ false) }
-{
-    with_files(alloc, "check")?.arg(value(alloc, "capacity"))
-}
-
-// The command `demo`.
-fn demo_line<'a>(alloc: Global) -> Result<Command<'a>, AllocError>
-    ensures shape { IfOk result (λ c. shape_of c ≡ demo_shape) }
-    ensures local { IfOk result (λ c. (out-Command c).has_globals ≡ false) }
-{
-    Command::new(alloc, "demo")
-        .arg(word(alloc, "seed"))?
-        .arg(word(alloc, "size"))?
-        .arg(value(alloc, "workers"))
-}
-
-// The command `save`.
-fn save_line<'a>(alloc: Global) -> Result<Command<'a>, AllocError>
-    ensures shape { IfOk result (λ c. shape_of c ≡ save_shape) }
-    ensures local { IfOk result (λ c. (out-Command c).has_globals ≡ false) }
-{
-    with_files(alloc, "save")?
-        .arg(word(alloc, "trace"))?
-        .arg(word(alloc, "at"))?
-        .arg(value(alloc, "capacity"))?
-        .arg(value(alloc, "workers"))
-}
-
-// The command `resume`.
-fn resume_line<'a>(alloc: Global) -> Result<Command<'a>, AllocError>
-    ensures shape { IfOk result (λ c. shape_of c ≡ resume_shape) }
-    ensures local { IfOk result (λ c. (out-Command c).has_globals ≡ false) }
-{
-    with_files(alloc, "resume")?
-        .arg(word(alloc, "trace"))?
-        .arg(word(alloc, "snap"))?
-        .arg(value(alloc, "capacity"))?
-        .arg(value(alloc, "workers"))
+    let (name, arguments) = *line;
+    let command = command(alloc, name, arguments)?;
+    Ok(command)
 }
 
 // The program without its commands.
 fn program<'a>(alloc: Global) -> Command<'a>
-    ensures shape { app_of result ≡ record { top = record golden_app.top { is_leaf = true }; subs = [] } }
-    ensures local { (out-Command result).has_globals ≡ false }
+    ensures { IsReadAs bare_app result }
 {
     Command::new(alloc, "golden")
         .disable_help_flag(true)
@@ -119,31 +127,20 @@ fn program<'a>(alloc: Global) -> Command<'a>
         .subcommand_required(true)
 }
 
-// The program with the first two of its commands.
-fn with_two<'a>(alloc: Global) -> Result<Command<'a>, AllocError>
-    ensures shape { IfOk result (λ c. app_of c ≡ record golden_app { subs = run_shape ∷ replay_shape ∷ [] }) }
-    ensures local { IfOk result (λ c. (out-Command c).has_globals ≡ false) }
+// The program with these commands.
+fn program_with<'a>(alloc: Global, commands: &[Line]) -> Result<Command<'a>, AllocError>
+    ensures { IfOk result (IsReadAs (with_commands bare_app commands.now)) }
 {
-    program(alloc)
-        .subcommand(run_line(alloc)?)?
-        .subcommand(replay_line(alloc)?)
-}
-
-// The program with the first four of its commands.
-fn with_four<'a>(alloc: Global) -> Result<Command<'a>, AllocError>
-    ensures shape { IfOk result (λ c. app_of c ≡ record golden_app { subs = run_shape ∷ replay_shape ∷ check_shape ∷ demo_shape ∷ [] }) }
-    ensures local { IfOk result (λ c. (out-Command c).has_globals ≡ false) }
-{
-    with_two(alloc)?
-        .subcommand(check_line(alloc)?)?
-        .subcommand(demo_line(alloc)?)
+    let mut program = program(alloc);
+    for line in commands {
+        program = program.subcommand(line_command(alloc, line)?)?;
+    }
+    Ok(program)
 }
 
 // The program's command line.
 pub(crate) fn golden_line<'a>(alloc: Global) -> Result<Command<'a>, AllocError>
     ensures { IfOk result (λ c. app_of c ≡ golden_app) }
 {
-    with_four(alloc)?
-        .subcommand(save_line(alloc)?)?
-        .subcommand(resume_line(alloc)?)
+    program_with(alloc, &COMMANDS)
 }

@@ -13,4 +13,6 @@ mod ApartLemmas
 mod WorkLemmas
 mod BackLemmas
 mod CapLemmas
+mod WholeLemmas
+mod LookLemmas
 mod LawLemmas

@@ -25,6 +25,13 @@ told-more steps first now next b t more = omega (arith, more, no-fewer steps fir
 pub told-still : {A : Type 0} (steps : A → ℕ) (first now next : A) (b : Bool) → StepsTold steps first now b → next ≡ now → StepsTold steps first next b
 told-still steps first now next b t same = subst (λ x. StepsTold steps first x b) (sym same) t
 
+-- what two tellings, one after the other, tell together
+pub told-then : {A : Type 0} (steps : A → ℕ) (first now next : A) (b r : Bool) → StepsTold steps first now b → StepsTold steps now next r → StepsTold steps first next (b || r)
+told-then steps first now next false false told then = told-still steps first now next false told then
+told-then steps first now next false true told then = told-more steps first now next false told then
+told-then steps first now next true false told then = told-still steps first now next true told then
+told-then steps first now next true true told then = told-more steps first now next true told then
+
 -- ---- the machines of a host
 
 pub host-more : (xs ys : List Machine) (t : ℕ) → t < length xs → ys ≡ slice_set xs t (machine_at ys t) → StepsDone xs t ys true → host_steps xs < host_steps ys

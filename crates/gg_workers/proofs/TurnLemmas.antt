@@ -60,16 +60,9 @@ module _ {X S T : Type 0} (takes_from : X → S → Type 0) (puts_into : X → T
     pub thread-here : s.thread ≡ t
     thread-here = ap (λ (e : Station). e.thread) (sym (is s)) ∙ ready.at.thread s
 
-    -- a pass was made over the machine
-    pub pass-done : q.machine ≡ p.machine → HasSeats takes_from puts_into taking putting flow net links p.machine s.ins s.outs y q.takes.items q.puts.items
-        → MachineWentOn frame p.machine upto x y → KnownDone taking putting frame upto s.ins s.outs x p.takes.items p.puts.items y → Done h t y q
-    pass-done same machine_seats went known =
-        let all : EventsDone net p.machine upto y = elim ready.before [
-          | inl new ↦
-              let newly : HasNewSeats taking putting net p.machine s.ins s.outs x p.takes.items p.puts.items = subst (λ (e : Station). HasNewSeats taking putting net p.machine e.ins e.outs x p.takes.items p.puts.items) (is s) (new s) in
-              events-done takes_from puts_into taking putting flow net kept links p.machine s here upto x p.takes.items p.puts.items machine_seats-here newly y known
-          | inr done ↦ events-later net p.machine upto x y done went
-        ] in
+    -- the machine has gone on, and all that could be done was done
+    went-done : q.machine ≡ p.machine → HasSeats takes_from puts_into taking putting flow net links p.machine s.ins s.outs y q.takes.items q.puts.items → MachineWentOn frame p.machine upto x y → EventsDone net p.machine upto y → Done h t y q
+    went-done same machine_seats went all =
         record {
           at = record {
             known = subst (λ (m : ℕ). m < length stations) (sym same) ready.at.known;
@@ -83,6 +76,22 @@ module _ {X S T : Type 0} (takes_from : X → S → Type 0) (puts_into : X → T
           };
           done = subst (λ (m : ℕ). EventsDone net m upto y) (sym same) all;
         }
+
+    -- a pass was made over the machine
+    pub pass-done : q.machine ≡ p.machine → HasSeats takes_from puts_into taking putting flow net links p.machine s.ins s.outs y q.takes.items q.puts.items
+        → MachineWentOn frame p.machine upto x y → KnownDone taking putting frame upto s.ins s.outs x p.takes.items p.puts.items y → Done h t y q
+    pass-done same machine_seats went known =
+        let all : EventsDone net p.machine upto y = elim ready.before [
+          | inl new ↦
+              let newly : HasNewSeats taking putting net p.machine s.ins s.outs x p.takes.items p.puts.items = subst (λ (e : Station). HasNewSeats taking putting net p.machine e.ins e.outs x p.takes.items p.puts.items) (is s) (new s) in
+              events-done takes_from puts_into taking putting flow net kept links p.machine s here upto x p.takes.items p.puts.items machine_seats-here newly y known
+          | inr done ↦ events-later net p.machine upto x y done went
+        ] in
+        went-done same machine_seats went all
+
+    -- an event of the machine was looked at
+    pub look-done : q.machine ≡ p.machine → HasSeats takes_from puts_into taking putting flow net links p.machine s.ins s.outs y q.takes.items q.puts.items → MachineWentOn frame p.machine upto x y → EventsDone net p.machine upto x → Done h t y q
+    look-done same machine_seats went done = went-done same machine_seats went (events-later net p.machine upto x y done went)
 
 -- some element of a list that has one
 some-of : {A : Type 0} (xs : List A) (k : ℕ) → k < length xs → A
@@ -138,7 +147,28 @@ module _ {S T : Type 0} (P Q : ℕ → ℕ → Machine → MachineSeats S T → 
             (λ ne. subst (λ (z : Machine). Q h t z (slice_index_or ds t d)) (sym (others-stay xs ys n t ne alone)) (a.first t d (omega (arith, le, ne)) (rw length-set at lt)));
       }
 
+-- one of the machines has gone on
+pub one-turned : {S T : Type 0} (P : ℕ → ℕ → Machine → MachineSeats S T → Type 0) (h n s : ℕ) (xs ys : List Machine) (ds : List (MachineSeats S T)) (q : MachineSeats S T) → EachThread P h xs ds → n < length ds → s ≡ n → ys ≡ slice_set xs s (machine_at ys s) → P h n (machine_at ys s) q → EachThread P h ys (slice_set ds n q)
+one-turned {S} {T} P h n s xs ys ds q all inside e alone done =
+    let turned : AreTurning P P (λ i t x d is. is) h (n + 1) ys (slice_set ds n q) =
+    turn-step P P (λ i t x d is. is) h n s xs ys ds q (record { count = all.count; each = all.each; first = λ t d le lt. all.each t d lt }) inside e alone done in
+    record { count = turned.count; each = turned.each }
+
 -- ---- several hosts
+
+numbers-set : {H S T : Type 0} (l : List (LinkedHost H S T)) (i : ℕ) (z w : LinkedHost H S T) → i < length l → ((d : LinkedHost H S T) → slice_index_or l i d ≡ w) → z.number ≡ w.number → map (λ (b : LinkedHost H S T). b.number) (slice_set l i z) ≡ map (λ (b : LinkedHost H S T). b.number) l
+numbers-set {H} {S} {T} l i z w lt at e =
+    map-set (λ (b : LinkedHost H S T). b.number) l i z
+    ∙ ap (λ n. slice_set (map (λ (b : LinkedHost H S T). b.number) l) i n) (e ∙ sym (get_or-map (λ (b : LinkedHost H S T). b.number) l i w 0 lt ∙ ap (λ (b : LinkedHost H S T). b.number) (at w)))
+    ∙ set-get_or (map (λ (b : LinkedHost H S T). b.number) l) i 0
+
+-- one of the hosts has changed, and not its number
+module _ {H S T : Type 0} (machines : H → List Machine) (threads : List ℕ) (P : ℕ → ℕ → Machine → MachineSeats S T → Type 0) (bs : List (LinkedHost H S T)) (n : ℕ) (p q : LinkedHost H S T) (inside : n < length bs) (was : (d : LinkedHost H S T) → slice_index_or bs n d ≡ p) (number : q.number ≡ p.number) where
+  pub one-passed : AreLinkedHosts machines threads P bs → IsLinkedHost machines threads P q → AreLinkedHosts machines threads P (slice_set bs n q)
+  one-passed are is k b lt = set_cases (λ j z. IsLinkedHost machines threads P z) bs n q inside k b (λ e. is) (λ ne. are k b (rw length-set at lt))
+
+  pub one-numbered : map (λ (b : LinkedHost H S T). b.number) (slice_set bs n q) ≡ map (λ (b : LinkedHost H S T). b.number) bs
+  one-numbered = numbers-set bs n q p inside was number
 
 -- lists of the same numbers are as long
 pub same-long : {H S T : Type 0} (a b : List (LinkedHost H S T)) → map (λ (x : LinkedHost H S T). x.number) a ≡ map (λ (x : LinkedHost H S T). x.number) b → length a ≡ length b
@@ -167,9 +197,3 @@ module _ {H S T : Type 0} (machines : H → List Machine) (threads : List ℕ) (
         last = λ k b le lt. set_cases (λ j z. IsLinkedHost machines threads Q z) bs (n - 1) q inside k b (λ e. is) (λ ne. a.last k b (omega (arith, le, ne, some)) (rw length-set at lt));
         numbers = numbers-set bs (n - 1) q p inside was number ∙ a.numbers;
       }
-    where
-      numbers-set : (l : List (LinkedHost H S T)) (i : ℕ) (z w : LinkedHost H S T) → i < length l → ((d : LinkedHost H S T) → slice_index_or l i d ≡ w) → z.number ≡ w.number → map (λ (b : LinkedHost H S T). b.number) (slice_set l i z) ≡ map (λ (b : LinkedHost H S T). b.number) l
-      numbers-set l i z w lt at e =
-          map-set (λ (b : LinkedHost H S T). b.number) l i z
-          ∙ ap (λ n. slice_set (map (λ (b : LinkedHost H S T). b.number) l) i n) (e ∙ sym (get_or-map (λ (b : LinkedHost H S T). b.number) l i w 0 lt ∙ ap (λ (b : LinkedHost H S T). b.number) (at w)))
-          ∙ set-get_or (map (λ (b : LinkedHost H S T). b.number) l) i 0

@@ -6,13 +6,18 @@
 //!   risen past `upto` and what it was.
 //! - Each event that could be done in the network handed in, of a machine below `upto`, was done.
 //!
+//! One worker runs the whole network by an order of the steps of a cycle, where no machine has reached `upto`. Otherwise
+//! each channel gets a link.
+//!
 //! Each host is given the seats of the channels of its machines. Then the hosts are assigned to workers, host h to worker h mod
 //! the number of workers. Each worker runs in a thread of its own. At the end the hosts are collected, in the order of their
 //! numbers.
 //!
-//! A turn of a worker is one pass over its machines, from the host with the least number on; the gate is passed at its
-//! start. A worker ends before a turn where none of its machines is below `upto`, or after 1,024 turns in a row without a
-//! step. Where a thread can't be started, the caller's does the work. All memory is taken before the first step.
+//! The first turn of a worker is one pass over its machines, from the host with the least number on. In each other one it
+//! goes on by the steps of its own machines in the order, until one is still to be done and can't be; after 64 turns in a
+//! row without a step, and each 64 more, a turn is a pass again. The gate is passed at the start of a turn. A worker ends
+//! before a turn where none of its machines is below `upto`, or after 1,024 turns in a row without a step. Where a thread
+//! can't be started, the caller's does the work. All memory is taken before the first step.
 //!
 //! [`later_by_steps`] says what that means: steps lead from the network to the one that comes back.
 #![tactic(auto)]
@@ -23,7 +28,9 @@ mod back;
 mod host_seats;
 mod laws;
 mod links;
+mod looks;
 mod opened;
+mod own_order;
 mod run;
 mod setup;
 mod threads;

@@ -8,6 +8,7 @@ ghost use Rattle.gg_workers.specs.inside.Assigned.{Assigning};
 ghost use Rattle.gg_workers.specs.inside.Turns.{Falls};
 
 use crate::assign::{assign_hosts, collect_hosts};
+use crate::own_order::OwnOrder;
 use crate::turns::run_worker;
 use crate::worker::{LinkedHost, Worker};
 use gg_flat::Streams;
@@ -26,6 +27,7 @@ fn run_all<R: Threads + Sync, H: Host, L: Link, Z: Streams, E: Era, G: Gate + Sy
     stations: &[Station],
     threads: &[u32],
     workers: &mut [Worker<H, L::TakeSeat, L::PutSeat>],
+    orders: &[OwnOrder],
     upto: u64,
     gate: &G,
 )
@@ -61,6 +63,7 @@ fn run_all<R: Threads + Sync, H: Host, L: Link, Z: Streams, E: Era, G: Gate + Sy
             stations,
             threads,
             &mut worker.linked_hosts,
+            orders,
             upto,
             gate,
             number as u32,
@@ -69,8 +72,9 @@ fn run_all<R: Threads + Sync, H: Host, L: Link, Z: Streams, E: Era, G: Gate + Sy
     thread::for_each_mut(rt, workers, count, &turns);
 }
 
-// Runs the machines of these hosts by the workers, host h by worker h mod the number of workers. Each worker ends before a
-// turn where no machine of its hosts is below `upto`, or after 1,024 turns in a row without a step. Allocates nothing.
+// Runs the machines of these hosts by the workers, host h by worker h mod the number of workers. Each worker has its own
+// order, and ends before a turn where no machine of its hosts is below `upto`, or after 1,024 turns in a row without a
+// step. Allocates nothing.
 pub(crate) fn run_assigned<R: Threads + Sync, H: Host, L: Link, Z: Streams, E: Era, G: Gate + Sync>(
     rt: &R,
     links: &[L],
@@ -78,6 +82,7 @@ pub(crate) fn run_assigned<R: Threads + Sync, H: Host, L: Link, Z: Streams, E: E
     threads: &[u32],
     linked_hosts: &mut Vec<LinkedHost<H, L::TakeSeat, L::PutSeat>>,
     workers: &mut Vec<Worker<H, L::TakeSeat, L::PutSeat>>,
+    orders: &[OwnOrder],
     upto: u64,
     gate: &G,
 )
@@ -94,6 +99,6 @@ pub(crate) fn run_assigned<R: Threads + Sync, H: Host, L: Link, Z: Streams, E: E
 {
     let count = linked_hosts.len();
     assign_hosts::<H, L::TakeSeat, L::PutSeat>(linked_hosts, workers);
-    run_all::<R, H, L, Z, E, G>(rt, links, stations, threads, workers, upto, gate);
+    run_all::<R, H, L, Z, E, G>(rt, links, stations, threads, workers, orders, upto, gate);
     collect_hosts::<H, L::TakeSeat, L::PutSeat>(workers, linked_hosts, count);
 }

@@ -1,4 +1,4 @@
-//! A worker's turns. Each is one pass over all machines of its hosts.
+//! A worker's turns. The first is one pass over all machines of its hosts. In each other one it goes on in its own order.
 ghost use Rattle.std.specs.Prelude.{◌≡◌, ◌↔◌, ◌⊎◌, ℕ, ◌+◌, ◌*◌, ◌<◌, ◌≤◌, length, map, MatchBool, true};
 ghost use Rattle.gg_node.specs.Machine.{machine_at};
 ghost use Rattle.gg_net.specs.Network.{frame_of};
@@ -7,6 +7,8 @@ ghost use Rattle.gg_net.specs.inside.Net.{AreListed};
 ghost use Rattle.gg_workers.specs.inside.LinkedHosts.{ReadyAt, DoneAt, EachThread, IsLinkedHost, AreLinkedHosts, AllEnded};
 ghost use Rattle.gg_workers.specs.inside.Turns.{Falls, host_steps, steps_of, machines_in, StepsTold};
 
+use crate::looks::{Place, go_on};
+use crate::own_order::{OwnEvent, OwnOrder};
 use crate::worker::LinkedHost;
 use gg_flat::Streams;
 use gg_io::Gate;
@@ -18,6 +20,9 @@ use std::{hint, thread};
 
 // A worker ends after so many turns in a row without a step.
 const IDLE_TURNS: u32 = 1024;
+
+// After so many turns in a row without a step, and each so many more, a turn is a pass over all machines.
+const WAITING_TURNS: u32 = 64;
 
 // The longest rest after a turn without a step, in waits of the processor.
 const LONGEST_REST: u32 = 256;
@@ -121,6 +126,64 @@ fn have_ended<H: Host, S, T>(linked_hosts: &[LinkedHost<H, S, T>], upto: u64) ->
     true
 }
 
+// The lowest cycle that a machine of a host is in, or `least` if that is lower.
+fn lowest_of<H: Host>(host: &H, least: u64) -> u64 {
+    let mut lowest = least;
+    for thread in 0..host.threads() {
+        lowest = lowest.min(host.cycle(thread));
+    }
+    lowest
+}
+
+// The lowest cycle that a machine of these hosts is in.
+fn lowest<H: Host, S, T>(linked_hosts: &[LinkedHost<H, S, T>]) -> u64 {
+    let mut lowest = u64::MAX;
+    for linked_host in linked_hosts {
+        lowest = lowest_of(&linked_host.host, lowest);
+    }
+    lowest
+}
+
+// The events that a worker tries in its next turn, after so many in a row without a step; None if it passes over all its
+// machines, as it does, too, where it has no order of its own.
+fn events_after<'a>(orders: &'a [OwnOrder], worker: u32, idle: u32) -> Option<&'a [OwnEvent]> {
+    if idle % WAITING_TURNS == WAITING_TURNS - 1 {
+        return None;
+    }
+    let own = orders.get(worker as usize)?;
+    if own.events.is_empty() {
+        return None;
+    }
+    Some(own.events.as_slice())
+}
+
+// A turn of a worker but the first. True if a step was done.
+fn take_turn<H: Host, L: Link, Z: Streams, E: Era>(
+    links: &[L],
+    stations: &[Station],
+    threads: &[u32],
+    linked_hosts: &mut Vec<LinkedHost<H, L::TakeSeat, L::PutSeat>>,
+    events: Option<&[OwnEvent]>,
+    place: &mut Place,
+    upto: u64,
+) -> bool
+    requires kept { Kept Z.flow E.start }
+    requires here { (length links.now ≡ length E.start.wires) × (upto ≤ E.start.end) }
+    requires listed { (length stations.now ≡ length E.start.machines) × AreListed (frame_of E.start) stations.now }
+    requires linked_hosts { AreLinkedHosts H.machines threads.now (DoneAt L.takes_from L.puts_into L.taking L.putting Z.flow E.start stations.now links.now upto) linked_hosts.old.items }
+    requires falls { Falls (map (λ b. b.number) linked_hosts.old.items) }
+    ensures linked_hosts { AreLinkedHosts H.machines threads.now (DoneAt L.takes_from L.puts_into L.taking L.putting Z.flow E.start stations.now links.now upto) linked_hosts.new.items }
+    ensures numbers { map (λ b. b.number) linked_hosts.new.items ≡ map (λ b. b.number) linked_hosts.old.items }
+    ensures told { StepsTold steps_of (machines_in H.machines linked_hosts.old.items) (machines_in H.machines linked_hosts.new.items) result }
+{
+    match events {
+        Some(events) => {
+            go_on::<H, L, Z, E>(links, stations, threads, linked_hosts, events, place, upto)
+        }
+        None => pass_all::<H, L, Z, E>(links, stations, threads, linked_hosts, upto),
+    }
+}
+
 // Lets other threads go on, after so many turns in a row without a step. The more there were, the longer it takes.
 fn rest(idle: u32) {
     for _ in 0..idle.min(LONGEST_REST) {
@@ -148,6 +211,7 @@ fn more_turns<H: Host, L: Link, Z: Streams, E: Era, G: Gate>(
     stations: &[Station],
     threads: &[u32],
     linked_hosts: &mut Vec<LinkedHost<H, L::TakeSeat, L::PutSeat>>,
+    orders: &[OwnOrder],
     upto: u64,
     gate: &G,
     worker: u32,
@@ -165,6 +229,7 @@ fn more_turns<H: Host, L: Link, Z: Streams, E: Era, G: Gate>(
     ensures turns { result + idle_before + 1024 * steps_of (machines_in H.machines linked_hosts.old.items) ≤ 1024 * steps_of (machines_in H.machines linked_hosts.new.items) + 1025 }
     ensures ended { AllEnded H.machines upto linked_hosts.new.items ⊎ (1024 ≤ result) }
 {
+    let mut place = Place::begin(lowest(linked_hosts));
     let mut idle = idle_before;
     for turn in 1..u64::MAX {
         if idle >= IDLE_TURNS {
@@ -175,7 +240,16 @@ fn more_turns<H: Host, L: Link, Z: Streams, E: Era, G: Gate>(
             return turn;
         }
         gate.pass(worker, turn);
-        let stepped = pass_all::<H, L, Z, E>(links, stations, threads, linked_hosts, upto);
+        let events = events_after(orders, worker, idle);
+        let stepped = take_turn::<H, L, Z, E>(
+            links,
+            stations,
+            threads,
+            linked_hosts,
+            events,
+            &mut place,
+            upto,
+        );
         idle = idle_after(stepped, idle);
     }
     u64::MAX
@@ -188,6 +262,7 @@ pub(crate) fn run_worker<H: Host, L: Link, Z: Streams, E: Era, G: Gate>(
     stations: &[Station],
     threads: &[u32],
     linked_hosts: &mut Vec<LinkedHost<H, L::TakeSeat, L::PutSeat>>,
+    orders: &[OwnOrder],
     upto: u64,
     gate: &G,
     worker: u32,
@@ -213,6 +288,7 @@ pub(crate) fn run_worker<H: Host, L: Link, Z: Streams, E: Era, G: Gate>(
         stations,
         threads,
         linked_hosts,
+        orders,
         upto,
         gate,
         worker,

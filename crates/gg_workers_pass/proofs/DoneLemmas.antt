@@ -8,7 +8,7 @@ use Rattle.gg_flat.specs.State.{State}
 use Rattle.gg_link.specs.Seats.{SeatState}
 use Rattle.gg_node.specs.Machine.{Machine, no_machine, machine_at, latch_at, flag_at}
 use Rattle.gg_node.specs.Step.{with_latch, with_flag, with_served, finished}
-use Rattle.gg_workers_pass.specs.inside.Tries.{LatchTried, FireTried, ServeTried, FinishTried}
+use Rattle.gg_workers_pass.specs.inside.Tries.{LatchTried, FireTried, ServeTried, FinishTriedIf}
 use Rattle.gg_workers_pass.specs.inside.Rows.{steps_by, StepsDone}
 
 -- ---- one step
@@ -77,9 +77,10 @@ module _ (hosts after : List Machine) (thread : ℕ) (within : thread < length h
   serve-done true t = stepped-more hosts after thread (with_served x) within t.step (omega arith)
   serve-done false t = t.same
 
-  pub finish-done : (b : Bool) → (machine_at hosts thread).served ≤ length (machine_at hosts thread).ports → FinishTried hosts thread after b → StepsDone hosts thread after b
-  finish-done true served t = stepped-more hosts after thread (finished x t.state) within t.step (finish-counts x t.state served)
-  finish-done false served t = t.same
+  pub finish-done : (tried b : Bool) → (machine_at hosts thread).served ≤ length (machine_at hosts thread).ports → FinishTriedIf tried hosts thread after b → StepsDone hosts thread after b
+  finish-done true true served t = stepped-more hosts after thread (finished x t.state) within t.step (finish-counts x t.state served)
+  finish-done true false served t = t.same
+  finish-done false b served t = subst (StepsDone hosts thread after) (sym t.0) t.1
 
 -- ---- several
 

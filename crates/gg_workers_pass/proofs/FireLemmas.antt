@@ -29,8 +29,8 @@ flag-grows flags n o below up =
     (λ (other : o ≢ n). get_or-set_other flags n o true false other ∙ up)
     (cases_eq o n)
 
-module _ {X S : Type 0} (of : X → S → Type 0) (part : S → SeatState) (flow : Flow) (net : Network) (kept : Kept flow net) (m : ℕ) (below : m < length (map kind_of net.machines)) (links : List X) (outs : List ℕ) (x0 : Machine) (are : AreOuts net m x0 outs) where
-  pub fires-start : (x : Machine) (seats : List S) → MachineAt flow (frame_of net) m x → SeatsByPlace of part flow net (enters_by (frame_of net) x) links outs seats → FiresTried of part flow net m links outs 0 x seats x seats
+module _ {X S : Type 0} (of : X → S → Type 0) (part : S → SeatState) (flow : Flow) (net : Network) (kept : Kept flow net) (m : ℕ) (below : m < length (map kind_of net.machines)) (links : List X) (outs : List ℕ) (x0 : Machine) (are : AreOuts net m x0 outs) (first : ℕ) where
+  pub fires-start : (x : Machine) (seats : List S) → MachineAt flow (frame_of net) m x → SeatsByPlace of part flow net (enters_by (frame_of net) x) links outs seats → FiresTried of part flow net m links outs first first x seats x seats
   fires-start x seats own placed =
       record {
         machine = own;
@@ -38,11 +38,11 @@ module _ {X S : Type 0} (of : X → S → Type 0) (part : S → SeatState) (flow
         same = refl;
         grows = λ o up. up;
         no_less = λ k s lt. omega arith;
-        done = λ k s none. absurd (omega (arith, none));
+        done = λ k s from none. absurd (omega (arith, from, none));
         untried = λ k s le. (refl, refl);
       }
 
-  module _ (n : ℕ) (x : Machine) (old : List S) (y : Machine) (new : List S) (h : FiresTried of part flow net m links outs n x old y new) (going : x.cycle < net.end) (inside : n < length outs) (p : S) (was : p ≡ slice_index_or new n p) where
+  module _ (n : ℕ) (x : Machine) (old : List S) (y : Machine) (new : List S) (h : FiresTried of part flow net m links outs first n x old y new) (going : x.cycle < net.end) (inside : n < length outs) (p : S) (was : p ≡ slice_index_or new n p) where
     abbrev c : ℕ
     c = value_at outs n
 
@@ -92,7 +92,7 @@ module _ {X S : Type 0} (of : X → S → Type 0) (part : S → SeatState) (flow
       other-place : (k : ℕ) → k < length outs → k ≢ n → value_at outs k ≢ c
       other-place k lt other same = other (sym (are.at k lt).out ∙ ap (λ d. (wire_at net.wires d).out) same ∙ at.out)
 
-      fired-yes : flag_at y.flags n ≡ false → missing y n ≡ None → Counted (part p) (part q) → FiresTried of part flow net m links outs (suc n) x old (with_flag y n) (slice_set new n q)
+      fired-yes : flag_at y.flags n ≡ false → missing y n ≡ None → Counted (part p) (part q) → FiresTried of part flow net m links outs first (suc n) x old (with_flag y n) (slice_set new n q)
       fired-yes clear none counted =
           let within : n < length y.flags = (may-give clear none).there in
           let others : (k : ℕ) → k < length outs → k ≢ n → enters_by (frame_of net) (with_flag y n) (value_at outs k) ≡ enters_by (frame_of net) y (value_at outs k) = λ k less other.
@@ -108,15 +108,15 @@ module _ {X S : Type 0} (of : X → S → Type 0) (part : S → SeatState) (flow
             no_less = λ k s less. set-cases (λ j u. (part (slice_index_or old j s)).count ≤ (part u).count) new n q long k s
                 (λ is. omega (arith, counted.count, ap (λ u. (part u).count) (old-is s long)))
                 (λ other. h.no_less k s less);
-            done = λ k s less known. set-cases (λ j u. flag_at x.flags j ≡ false → missing x j ≡ None → (part (slice_index_or old j s)).count < (part (slice_index_or old j s)).seen + (part (slice_index_or old j s)).capacity → (part (slice_index_or old j s)).count < (part u).count) new n q long k s
+            done = λ k s from less known. set-cases (λ j u. flag_at x.flags j ≡ false → missing x j ≡ None → (part (slice_index_or old j s)).count < (part (slice_index_or old j s)).seen + (part (slice_index_or old j s)).capacity → (part (slice_index_or old j s)).count < (part u).count) new n q long k s
                 (λ is free need room. omega (arith, counted.count, ap (λ u. (part u).count) (old-is s long)))
-                (λ other. h.done k s (omega (arith, less, other)) known);
+                (λ other. h.done k s from (omega (arith, less, other)) known);
             untried = λ k s le.
                 let other : k ≢ n = λ same. omega (arith, le, same) in
                 (get_or-set_other new n k q s other ∙ (h.untried k s (omega (arith, le))).0, get_or-set_other y.flags n k true false other ∙ (h.untried k s (omega (arith, le))).1);
           }
 
-      fired-no : SeatWentOn (part p) (part q) → (part q).count ≡ (part p).count → (flag_at y.flags n ≡ false → missing y n ≡ None → (part q).seen + (part q).capacity ≡ (part q).count) → FiresTried of part flow net m links outs (suc n) x old y (slice_set new n q)
+      fired-no : SeatWentOn (part p) (part q) → (part q).count ≡ (part p).count → (flag_at y.flags n ≡ false → missing y n ≡ None → (part q).seen + (part q).capacity ≡ (part q).count) → FiresTried of part flow net m links outs first (suc n) x old y (slice_set new n q)
       fired-no went count cause =
           record {
             machine = h.machine;
@@ -128,22 +128,22 @@ module _ {X S : Type 0} (of : X → S → Type 0) (part : S → SeatState) (flow
             no_less = λ k s less. set-cases (λ j u. (part (slice_index_or old j s)).count ≤ (part u).count) new n q long k s
                 (λ is. omega (arith, count, ap (λ u. (part u).count) (old-is s long)))
                 (λ other. h.no_less k s less);
-            done = λ k s less known. set-cases (λ j u. flag_at x.flags j ≡ false → missing x j ≡ None → (part (slice_index_or old j s)).count < (part (slice_index_or old j s)).seen + (part (slice_index_or old j s)).capacity → (part (slice_index_or old j s)).count < (part u).count) new n q long k s
+            done = λ k s from less known. set-cases (λ j u. flag_at x.flags j ≡ false → missing x j ≡ None → (part (slice_index_or old j s)).count < (part (slice_index_or old j s)).seen + (part (slice_index_or old j s)).capacity → (part (slice_index_or old j s)).count < (part u).count) new n q long k s
                 (λ is free need room.
                 let full : (part q).seen + (part q).capacity ≡ (part q).count = cause ((h.untried n s (omega arith)).1 ∙ free) (ap (λ (z : Machine). missing z n) h.same ∙ need) in
                 absurd (omega (arith, full, count, went.seen, went.capacity, room, ap (λ u. (part u).count) (old-is s long), ap (λ u. (part u).seen) (old-is s long), ap (λ u. (part u).capacity) (old-is s long))))
-                (λ other. h.done k s (omega (arith, less, other)) known);
+                (λ other. h.done k s from (omega (arith, less, other)) known);
             untried = λ k s le. let other : k ≢ n = λ same. omega (arith, le, same) in (get_or-set_other new n k q s other ∙ (h.untried k s (omega (arith, le))).0, (h.untried k s (omega (arith, le))).1);
           }
 
       -- after one more try, whatever came of it
-      pub fire-step : (hosts after : List Machine) (thread : ℕ) → machine_at hosts thread ≡ y → thread < length hosts → (b : Bool) → FireTried hosts thread n (part p) after (part q) b → FiresTried of part flow net m links outs (suc n) x old (machine_at after thread) (slice_set new n q)
+      pub fire-step : (hosts after : List Machine) (thread : ℕ) → machine_at hosts thread ≡ y → thread < length hosts → (b : Bool) → FireTried hosts thread n (part p) after (part q) b → FiresTried of part flow net m links outs first (suc n) x old (machine_at after thread) (slice_set new n q)
       fire-step hosts after thread is within true t =
           let next : machine_at after thread ≡ with_flag y n = ap (λ all. machine_at all thread) t.step ∙ get_or-set_same hosts thread (with_flag (machine_at hosts thread) n) no_machine within ∙ ap (λ z. with_flag z n) is in
-          subst (λ z. FiresTried of part flow net m links outs (suc n) x old z (slice_set new n q)) (sym next)
+          subst (λ z. FiresTried of part flow net m links outs first (suc n) x old z (slice_set new n q)) (sym next)
           (fired-yes (subst (λ (z : Machine). flag_at z.flags n ≡ false) is t.clear) (subst (λ (z : Machine). missing z n ≡ None) is t.needed) t.counted)
       fire-step hosts after thread is within false t =
-          subst (λ z. FiresTried of part flow net m links outs (suc n) x old z (slice_set new n q)) (sym (ap (λ all. machine_at all thread) t.same ∙ is))
+          subst (λ z. FiresTried of part flow net m links outs first (suc n) x old z (slice_set new n q)) (sym (ap (λ all. machine_at all thread) t.same ∙ is))
           (fired-no t.went_on t.count (λ clear none. t.cause (subst (λ (z : Machine). flag_at z.flags n ≡ false) (sym is) clear) (subst (λ (z : Machine). missing z n ≡ None) (sym is) none)))
 
 pub alone-fire : (first hosts after : List Machine) (thread place : ℕ) (p q : SeatState) → thread < length first → hosts ≡ slice_set first thread (machine_at hosts thread) → (b : Bool) → FireTried hosts thread place p after q b → after ≡ slice_set first thread (machine_at after thread)

@@ -1,6 +1,6 @@
 -- A pass over one machine: its row of latches, its row of fires, its serves, and the end of its cycle.
-use Rattle.std.proofs.Common.{◌≡◌, ◌≢◌, ◌+◌, ◌*◌, ℕ, ◌<◌, ◌≤◌, List, Option, None, Bool, true, false, length, map, refl, sym, ap, subst, ◌∙◌, arith, get_or-set_same}
-use Rattle.std.specs.Prelude.{All, IsSome, slice_index_or, slice_get}
+use Rattle.std.proofs.Common.{◌≡◌, ◌≢◌, ◌+◌, ◌*◌, ℕ, ◌<◌, ◌≤◌, List, Option, None, Bool, true, false, length, map, refl, sym, ap, subst, ◌∙◌, arith, get_or-set_same, true≢false}
+use Rattle.std.specs.Prelude.{◌^◌, All, IsSome, max, min, slice_index_or, slice_get}
 use Rattle.std.proofs.lemmas.List.{get_or_default}
 use Rattle.gg_flat.specs.Line.{value_at}
 use Rattle.gg_flat.specs.State.{State}
@@ -21,11 +21,13 @@ use Rattle.gg_net.proofs.LatchLemmas.{all-filled, none-empty}
 use Rattle.gg_net.proofs.StepLemmas.{all-served}
 use Rattle.gg_net.proofs.MachineLemmas.{own_finish}
 use Rattle.gg_net.proofs.PartLemmas.{takes-finish, enters-finish}
+use Rattle.gg_workers_pass.specs.declared.choice.Chosen.{Chosen}
+use Rattle.gg_workers_pass.specs.inside.Chosen.{all_chosen}
 use Rattle.gg_workers_pass.specs.inside.Seats.{SeatCounts}
 use Rattle.gg_workers_pass.specs.Tries.{StandsBelow}
-use Rattle.gg_workers_pass.specs.inside.Tries.{ServeIsDue, FinishIsDue, FinishTried}
+use Rattle.gg_workers_pass.specs.inside.Tries.{ServeIsDue, FinishIsDue, FinishTriedIf}
 use Rattle.gg_workers_pass.specs.inside.Rows.{SeatsByPlace, AreIns, AreOuts, LatchesTried, FiresTried, ServesTried, NoneServes}
-use Rattle.gg_workers_pass.specs.inside.Pass.{puts_by, serves_by, MachineWentOn, HasSeats, KnownDone}
+use Rattle.gg_workers_pass.specs.inside.Pass.{puts_by, serves_by, MachineWentOn, HasSeats, ChosenDone, KnownDone}
 use Rattle.gg_workers_pass.proofs.WentLemmas.{enters-puts, went-further, went-latches, went-fires, went-serves, went-finish, went-nowhere}
 
 -- ---- what stays possible while tokens are latched and given
@@ -62,20 +64,20 @@ are-ins flow net m x station own listed = record { count = listed.ins ∙ sym (a
 pub are-outs : (flow : Flow) (net : Network) (m : ℕ) (x : Machine) (station : Station) → MachineAt flow (frame_of net) m x → IsListed net.wires m (kind_at (frame_of net).kinds m) station → AreOuts net m x station.outs
 are-outs flow net m x station own listed = record { count = listed.outs ∙ sym (ap (λ (k : Kind). k.outs) own.kind); at = λ k lt. listed.from k (omega (arith, lt, listed.outs)) }
 
--- The cycle was finished, or nothing was done.
-record Ended (flow : Flow) (frame : Frame) (m upto : ℕ) (x y : Machine) : Type 0 where
+-- The cycle was finished, or nothing was done, and that could be done only if it wasn't to be tried.
+record Ended (tried : Bool) (flow : Flow) (frame : Frame) (m upto : ℕ) (x y : Machine) : Type 0 where
   machine : MachineAt flow frame m y
   went_on : MachineWentOn frame m upto x y
   takes : (c : ℕ) → c < length frame.wires → (wire_at frame.wires c).consumer ≡ m → takes_by frame y c ≡ takes_by frame x c
   enters : (c : ℕ) → c < length frame.wires → (wire_at frame.wires c).producer ≡ m → enters_by frame y c ≡ enters_by frame x c
-  finish : FinishIsDue x → x.cycle < y.cycle
+  finish : tried ≡ true → FinishIsDue x → x.cycle < y.cycle
 
 module _ {X S T : Type 0} (takes_from : X → S → Type 0) (puts_into : X → T → Type 0) (taking : S → SeatState) (putting : T → SeatState) (flow : Flow) (net : Network) (kept : Kept flow net) (links : List X) (m : ℕ) (there : m < length (map kind_of net.machines)) (upto : ℕ) (few : upto ≤ net.end) (ins outs : List ℕ)
     (x : Machine) (take_seats : List S) (put_seats : List T) (machine_seats : HasSeats takes_from puts_into taking putting flow net links m ins outs x take_seats put_seats)
-    (into : AreIns net m x ins) (from : AreOuts net m x outs) (below : StandsBelow upto x)
-    (x1 : Machine) (take_seats1 : List S) (latches : LatchesTried takes_from taking flow net m links ins (length ins) x take_seats x1 take_seats1)
-    (x2 : Machine) (put_seats1 : List T) (fires : FiresTried puts_into putting flow net m links outs (length outs) x1 put_seats x2 put_seats1)
-    (x3 : Machine) (serves : ServesTried flow net m x2 x3) (none : NoneServes x3) where
+    (into : AreIns net m x ins) (from : AreOuts net m x outs) (below : StandsBelow upto x) (chosen : Chosen)
+    (x1 : Machine) (take_seats1 : List S) (latches : LatchesTried takes_from taking flow net m links ins chosen.first_in (max chosen.first_in (min chosen.past_in (length ins))) x take_seats x1 take_seats1)
+    (x2 : Machine) (put_seats1 : List T) (fires : FiresTried puts_into putting flow net m links outs chosen.first_out (max chosen.first_out (min chosen.past_out (length outs))) x1 put_seats x2 put_seats1)
+    (x3 : Machine) (serves : ServesTried flow net m x2 x3) (none : chosen.serves ≡ true → NoneServes x3) where
   abbrev frame : Frame
   frame = frame_of net
 
@@ -141,17 +143,17 @@ module _ {X S T : Type 0} (takes_from : X → S → Type 0) (puts_into : X → T
 
   -- ---- the end of the cycle
 
-  ended-not : (FinishIsDue x3 → ⊥) → Ended flow frame m upto x3 x3
+  ended-not : (chosen.finishes ≡ true → FinishIsDue x3 → ⊥) → Ended chosen.finishes flow frame m upto x3 x3
   ended-not cause =
       record {
         machine = serves.machine;
         went_on = went-nowhere frame m upto x3;
         takes = λ c known to. refl;
         enters = λ c known by. refl;
-        finish = λ may. absurd (cause may);
+        finish = λ tried may. absurd (cause tried may);
       }
 
-  ended-so : (next : State) → FinishIsDue x3 → IsNextState x3 next → Ended flow frame m upto x3 (finished x3 next)
+  ended-so : (next : State) → FinishIsDue x3 → IsNextState x3 next → Ended chosen.finishes flow frame m upto x3 (finished x3 next)
   ended-so next whole goes =
       let count : x3.served ≡ length x3.ports = all-served x3.ports x3.served any_port serves.machine.served whole.served in
       let own : MachineAt flow frame m (finished x3 next) = own_finish flow frame kept.sound m there x3 serves.machine next (omega (arith, below3, few)) whole.latched count goes in
@@ -160,25 +162,27 @@ module _ {X S T : Type 0} (takes_from : X → S → Type 0) (puts_into : X → T
         went_on = went-finish frame m upto flow kept.sound there x3 serves.machine below3 next (own.kind ∙ sym serves.machine.kind) whole.fired whole.latched;
         takes = λ c known to. takes-finish flow frame kept.sound m there x3 serves.machine next c known to whole.latched;
         enters = λ c known by. enters-finish flow frame kept.sound m there x3 serves.machine next c known by whole.fired;
-        finish = λ may. omega arith;
+        finish = λ tried may. omega arith;
       }
 
-  ended-by : (hosts after : List Machine) (thread : ℕ) → thread < length hosts → machine_at hosts thread ≡ x3 → (b : Bool) → FinishTried hosts thread after b → Ended flow frame m upto x3 (machine_at after thread)
-  ended-by hosts after thread here is false t =
-      subst (Ended flow frame m upto x3) (sym (ap (λ all. machine_at all thread) t.same ∙ is)) (ended-not (λ may. t.cause (subst FinishIsDue (sym is) may)))
-  ended-by hosts after thread here is true t =
-      subst (Ended flow frame m upto x3)
+  ended-by : (hosts after : List Machine) (thread : ℕ) → thread < length hosts → machine_at hosts thread ≡ x3 → (tried b : Bool) → chosen.finishes ≡ tried → FinishTriedIf tried hosts thread after b → Ended chosen.finishes flow frame m upto x3 (machine_at after thread)
+  ended-by hosts after thread here is false b not t =
+      subst (Ended chosen.finishes flow frame m upto x3) (sym (ap (λ all. machine_at all thread) t.1 ∙ is)) (ended-not (λ yes may. absurd (true≢false (sym yes ∙ not))))
+  ended-by hosts after thread here is true false so t =
+      subst (Ended chosen.finishes flow frame m upto x3) (sym (ap (λ all. machine_at all thread) t.same ∙ is)) (ended-not (λ yes may. t.cause (subst FinishIsDue (sym is) may)))
+  ended-by hosts after thread here is true true so t =
+      subst (Ended chosen.finishes flow frame m upto x3)
       (sym (ap (λ all. machine_at all thread) t.step ∙ get_or-set_same hosts thread (finished (machine_at hosts thread) t.state) no_machine here ∙ ap (λ z. finished z t.state) is))
       (ended-so t.state (subst FinishIsDue is t.whole) (subst (λ z. IsNextState z t.state) is t.is))
 
   -- ---- the whole pass
 
-  module _ (hosts after : List Machine) (thread : ℕ) (here : thread < length hosts) (is : machine_at hosts thread ≡ x3) (b : Bool) (t : FinishTried hosts thread after b) where
+  module _ (hosts after : List Machine) (thread : ℕ) (here : thread < length hosts) (is : machine_at hosts thread ≡ x3) (b : Bool) (t : FinishTriedIf chosen.finishes hosts thread after b) where
     abbrev y : Machine
     y = machine_at after thread
 
-    ended : Ended flow frame m upto x3 y
-    ended = ended-by hosts after thread here is b t
+    ended : Ended chosen.finishes flow frame m upto x3 y
+    ended = ended-by hosts after thread here is chosen.finishes b refl t
 
     pub pass-went : MachineWentOn frame m upto x y
     pass-went = went-further frame m upto x x1 y went1 (went-further frame m upto x1 x3 y went13 ended.went_on)
@@ -193,16 +197,16 @@ module _ {X S T : Type 0} (takes_from : X → S → Type 0) (puts_into : X → T
               (λ k lt. ended.enters (value_at outs k) (from.at k lt).known (from.at k lt).machine ∙ ap (λ z. enters_by frame z (value_at outs k)) serves.same) fires.placed;
         }
 
-    pub pass-done : KnownDone taking putting frame upto ins outs x take_seats put_seats y
+    pub pass-done : ChosenDone taking putting frame upto chosen ins outs x take_seats put_seats y
     pass-done =
         let rest : MachineWentOn frame m upto x1 y = went-further frame m upto x1 x3 y went13 ended.went_on in
         record {
-          latch = λ k s lt going empty seen.
+          latch = λ k s first past lt going empty seen.
               let c : ℕ = value_at ins k in
               let up : takes_by frame x c < takes_by frame x1 c =
-              count-up flow net c (takes_by frame x c) (takes_by frame x1 c) (taking (slice_index_or take_seats k s)) (taking (slice_index_or take_seats1 k s)) (machine_seats.takes.counts k s lt) (latches.placed.counts k s lt) (latches.done k s lt lt empty seen) in
+              count-up flow net c (takes_by frame x c) (takes_by frame x1 c) (taking (slice_index_or take_seats k s)) (taking (slice_index_or take_seats1 k s)) (machine_seats.takes.counts k s lt) (latches.placed.counts k s lt) (latches.done k s first (omega (arith, past, lt)) lt empty seen) in
               omega (arith, up, (rest.takes c (into.at k lt).known (into.at k lt).machine).up);
-          fire = λ k s lt going clear needed room.
+          fire = λ k s first past lt going clear needed room.
               let c : ℕ = value_at outs k in
               let flag : flag_at x1.flags k ≡ false = ap (λ (z : Machine). flag_at z.flags k) latches.same ∙ clear in
               let none : missing x1 k ≡ None =
@@ -210,16 +214,16 @@ module _ {X S T : Type 0} (takes_from : X → S → Type 0) (puts_into : X → T
               ∙ still-filled x.latches x1.latches (needs_at x.needs k) latches.grows needed in
               let same : enters_by frame x1 c ≡ enters_by frame x c = ap (λ z. enters_by frame z c) latches.same in
               let up : enters_by frame x c < enters_by frame x2 c =
-              count-up flow net c (enters_by frame x c) (enters_by frame x2 c) (putting (slice_index_or put_seats k s)) (putting (slice_index_or put_seats1 k s)) (machine_seats.puts.counts k s lt) (fires.placed.counts k s lt) (fires.done k s lt lt flag none room) in
+              count-up flow net c (enters_by frame x c) (enters_by frame x2 c) (putting (slice_index_or put_seats k s)) (putting (slice_index_or put_seats1 k s)) (machine_seats.puts.counts k s lt) (fires.placed.counts k s lt) (fires.done k s first (omega (arith, past, lt)) lt flag none room) in
               let more : puts_by frame x c < puts_by frame x2 c = enters-puts (wire_at frame.wires c).first (puts_by frame x c) (puts_by frame x2 c) up in
               omega (arith, more, (went3.puts c (from.at k lt).known (from.at k lt).machine).up, (ended.went_on.puts c (from.at k lt).known (from.at k lt).machine).up);
-          serve = λ p going may.
+          serve = λ p tried going may.
               let port : ServeIsDue x2 p = serve-still p may in
-              let apart : x3.served ≢ x2.served = λ same. none p (serve-again p port same) in
+              let apart : x3.served ≢ x2.served = λ same. none tried p (serve-again p port same) in
               let is2 : serves_by x2 ≡ serves_by x = ap serves_by fires.same ∙ ap serves_by latches.same in
               let is3 : serves_by x3 ≡ length x2.ports * x2.cycle + x3.served = ap serves_by serves.same in
               omega (arith, is2, is3, apart, serves.grows, ended.went_on.serves.up);
-          finish = λ going may. omega (arith, ended.finish (finish-still may), went1.cycle.up, went13.cycle.up);
+          finish = λ tried going may. omega (arith, ended.finish tried (finish-still may), went1.cycle.up, went13.cycle.up);
         }
       where
         serve-again : (p : ℕ) → ServeIsDue x2 p → x3.served ≡ x2.served → ServeIsDue x3 p
@@ -238,12 +242,23 @@ module _ {X S T : Type 0} (takes_from : X → S → Type 0) (puts_into : X → T
 
 -- ---- a pass of a machine that isn't below the cycle
 
--- Nothing was done, and nothing could be.
-pub idle-done : {S T : Type 0} (taking : S → SeatState) (putting : T → SeatState) (frame : Frame) (upto : ℕ) (ins outs : List ℕ) (x : Machine) (take_seats : List S) (put_seats : List T) → upto ≤ x.cycle → KnownDone taking putting frame upto ins outs x take_seats put_seats x
-idle-done taking putting frame upto ins outs x take_seats put_seats le =
-    record {
-      latch = λ k s lt going empty seen. absurd (omega (arith, going, le));
-      fire = λ k s lt going clear needed room. absurd (omega (arith, going, le));
-      serve = λ p going may. absurd (omega (arith, going, le));
-      finish = λ going may. absurd (omega (arith, going, le));
-    }
+module _ {S T : Type 0} (taking : S → SeatState) (putting : T → SeatState) (frame : Frame) (upto : ℕ) (ins outs : List ℕ) (x : Machine) (take_seats : List S) (put_seats : List T) where
+  -- Nothing was done, and nothing could be.
+  pub idle-done : (chosen : Chosen) → upto ≤ x.cycle → ChosenDone taking putting frame upto chosen ins outs x take_seats put_seats x
+  idle-done chosen le =
+      record {
+        latch = λ k s first past lt going empty seen. absurd (omega (arith, going, le));
+        fire = λ k s first past lt going clear needed room. absurd (omega (arith, going, le));
+        serve = λ p tried going may. absurd (omega (arith, going, le));
+        finish = λ tried going may. absurd (omega (arith, going, le));
+      }
+
+  -- where all are chosen, all that could be done was done
+  pub all-done : (y : Machine) → length ins < 2 ^ 32 → length outs < 2 ^ 32 → ChosenDone taking putting frame upto all_chosen ins outs x take_seats put_seats y → KnownDone taking putting frame upto ins outs x take_seats put_seats y
+  all-done y few_ins few_outs done =
+      record {
+        latch = λ k s lt. done.latch k s (omega arith) (omega (arith, lt, few_ins)) lt;
+        fire = λ k s lt. done.fire k s (omega arith) (omega (arith, lt, few_outs)) lt;
+        serve = λ p. done.serve p refl;
+        finish = done.finish refl;
+      }

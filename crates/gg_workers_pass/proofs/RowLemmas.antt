@@ -44,8 +44,8 @@ placed-set {X = X} {S = S} of part flow net f g links channels seats n q link h 
           (λ other. subst (λ c. SeatCounts flow net (value_at channels k) c (part (slice_index_or seats k s))) (sym (others k lt other)) (h.counts k s lt));
     }
 
-module _ {X S : Type 0} (of : X → S → Type 0) (part : S → SeatState) (flow : Flow) (net : Network) (kept : Kept flow net) (m : ℕ) (below : m < length (map kind_of net.machines)) (links : List X) (ins : List ℕ) (x0 : Machine) (are : AreIns net m x0 ins) where
-  pub latches-start : (x : Machine) (seats : List S) → MachineAt flow (frame_of net) m x → SeatsByPlace of part flow net (takes_by (frame_of net) x) links ins seats → LatchesTried of part flow net m links ins 0 x seats x seats
+module _ {X S : Type 0} (of : X → S → Type 0) (part : S → SeatState) (flow : Flow) (net : Network) (kept : Kept flow net) (m : ℕ) (below : m < length (map kind_of net.machines)) (links : List X) (ins : List ℕ) (x0 : Machine) (are : AreIns net m x0 ins) (first : ℕ) where
+  pub latches-start : (x : Machine) (seats : List S) → MachineAt flow (frame_of net) m x → SeatsByPlace of part flow net (takes_by (frame_of net) x) links ins seats → LatchesTried of part flow net m links ins first first x seats x seats
   latches-start x seats own placed =
       record {
         machine = own;
@@ -53,11 +53,11 @@ module _ {X S : Type 0} (of : X → S → Type 0) (part : S → SeatState) (flow
         same = refl;
         grows = λ i some. some;
         no_less = λ k s lt. omega arith;
-        done = λ k s none. absurd (omega (arith, none));
+        done = λ k s from none. absurd (omega (arith, from, none));
         untried = λ k s le. (refl, refl);
       }
 
-  module _ (n : ℕ) (x : Machine) (old : List S) (y : Machine) (new : List S) (h : LatchesTried of part flow net m links ins n x old y new) (going : x.cycle < net.end) (inside : n < length ins) (p : S) (was : p ≡ slice_index_or new n p) where
+  module _ (n : ℕ) (x : Machine) (old : List S) (y : Machine) (new : List S) (h : LatchesTried of part flow net m links ins first n x old y new) (going : x.cycle < net.end) (inside : n < length ins) (p : S) (was : p ≡ slice_index_or new n p) where
     abbrev c : ℕ
     c = value_at ins n
 
@@ -93,7 +93,7 @@ module _ {X S : Type 0} (of : X → S → Type 0) (part : S → SeatState) (flow
       other-place : (k : ℕ) → k < length ins → k ≢ n → value_at ins k ≢ c
       other-place k lt other same = other (sym (are.at k lt).place ∙ ap (λ d. (wire_at net.wires d).place) same ∙ at.place)
 
-      latched-yes : (value : ℕ) → latch_at y.latches n ≡ None → slice_get (part p).stream (part p).count ≡ Some value → Counted (part p) (part q) → LatchesTried of part flow net m links ins (suc n) x old (with_latch y n value) (slice_set new n q)
+      latched-yes : (value : ℕ) → latch_at y.latches n ≡ None → slice_get (part p).stream (part p).count ≡ Some value → Counted (part p) (part q) → LatchesTried of part flow net m links ins first (suc n) x old (with_latch y n value) (slice_set new n q)
       latched-yes value none token counted =
           let i : ℕ = (wire_at net.wires c).place in
           let within : n < length y.latches = (may-take value none token).there in
@@ -116,15 +116,15 @@ module _ {X S : Type 0} (of : X → S → Type 0) (part : S → SeatState) (flow
             no_less = λ k s less. set-cases (λ j u. (part (slice_index_or old j s)).count ≤ (part u).count) new n q long k s
                 (λ is. omega (arith, counted.count, ap (λ u. (part u).count) (old-is s long)))
                 (λ other. h.no_less k s less);
-            done = λ k s less known. set-cases (λ j u. latch_at x.latches j ≡ None → (part (slice_index_or old j s)).count < (part (slice_index_or old j s)).seen → (part (slice_index_or old j s)).count < (part u).count) new n q long k s
+            done = λ k s from less known. set-cases (λ j u. latch_at x.latches j ≡ None → (part (slice_index_or old j s)).count < (part (slice_index_or old j s)).seen → (part (slice_index_or old j s)).count < (part u).count) new n q long k s
                 (λ is free seen. omega (arith, counted.count, ap (λ u. (part u).count) (old-is s long)))
-                (λ other. h.done k s (omega (arith, less, other)) known);
+                (λ other. h.done k s from (omega (arith, less, other)) known);
             untried = λ k s le.
                 let other : k ≢ n = λ same. omega (arith, le, same) in
                 (get_or-set_other new n k q s other ∙ (h.untried k s (omega (arith, le))).0, get_or-set_other y.latches n k (Some value) None other ∙ (h.untried k s (omega (arith, le))).1);
           }
 
-      latched-no : SeatWentOn (part p) (part q) → (part q).count ≡ (part p).count → (latch_at y.latches n ≡ None → (part q).seen ≡ (part q).count) → LatchesTried of part flow net m links ins (suc n) x old y (slice_set new n q)
+      latched-no : SeatWentOn (part p) (part q) → (part q).count ≡ (part p).count → (latch_at y.latches n ≡ None → (part q).seen ≡ (part q).count) → LatchesTried of part flow net m links ins first (suc n) x old y (slice_set new n q)
       latched-no went count cause =
           record {
             machine = h.machine;
@@ -136,22 +136,22 @@ module _ {X S : Type 0} (of : X → S → Type 0) (part : S → SeatState) (flow
             no_less = λ k s less. set-cases (λ j u. (part (slice_index_or old j s)).count ≤ (part u).count) new n q long k s
                 (λ is. omega (arith, count, ap (λ u. (part u).count) (old-is s long)))
                 (λ other. h.no_less k s less);
-            done = λ k s less known. set-cases (λ j u. latch_at x.latches j ≡ None → (part (slice_index_or old j s)).count < (part (slice_index_or old j s)).seen → (part (slice_index_or old j s)).count < (part u).count) new n q long k s
+            done = λ k s from less known. set-cases (λ j u. latch_at x.latches j ≡ None → (part (slice_index_or old j s)).count < (part (slice_index_or old j s)).seen → (part (slice_index_or old j s)).count < (part u).count) new n q long k s
                 (λ is free seen.
                 let all : (part q).seen ≡ (part q).count = cause ((h.untried n s (omega arith)).1 ∙ free) in
                 absurd (omega (arith, all, count, went.seen, seen, ap (λ u. (part u).count) (old-is s long), ap (λ u. (part u).seen) (old-is s long))))
-                (λ other. h.done k s (omega (arith, less, other)) known);
+                (λ other. h.done k s from (omega (arith, less, other)) known);
             untried = λ k s le. let other : k ≢ n = λ same. omega (arith, le, same) in (get_or-set_other new n k q s other ∙ (h.untried k s (omega (arith, le))).0, (h.untried k s (omega (arith, le))).1);
           }
 
       -- after one more try, whatever came of it
-      pub latch-step : (hosts after : List Machine) (thread : ℕ) → machine_at hosts thread ≡ y → thread < length hosts → (b : Bool) → LatchTried hosts thread n (part p) after (part q) b → LatchesTried of part flow net m links ins (suc n) x old (machine_at after thread) (slice_set new n q)
+      pub latch-step : (hosts after : List Machine) (thread : ℕ) → machine_at hosts thread ≡ y → thread < length hosts → (b : Bool) → LatchTried hosts thread n (part p) after (part q) b → LatchesTried of part flow net m links ins first (suc n) x old (machine_at after thread) (slice_set new n q)
       latch-step hosts after thread is within true t =
           let next : machine_at after thread ≡ with_latch y n t.value = ap (λ all. machine_at all thread) t.step ∙ get_or-set_same hosts thread (with_latch (machine_at hosts thread) n t.value) no_machine within ∙ ap (λ z. with_latch z n t.value) is in
-          subst (λ z. LatchesTried of part flow net m links ins (suc n) x old z (slice_set new n q)) (sym next)
+          subst (λ z. LatchesTried of part flow net m links ins first (suc n) x old z (slice_set new n q)) (sym next)
           (latched-yes t.value (subst (λ (z : Machine). latch_at z.latches n ≡ None) is t.empty) t.token t.counted)
       latch-step hosts after thread is within false t =
-          subst (λ z. LatchesTried of part flow net m links ins (suc n) x old z (slice_set new n q)) (sym (ap (λ all. machine_at all thread) t.same ∙ is))
+          subst (λ z. LatchesTried of part flow net m links ins first (suc n) x old z (slice_set new n q)) (sym (ap (λ all. machine_at all thread) t.same ∙ is))
           (latched-no t.went_on t.count (λ none. t.cause (subst (λ (z : Machine). latch_at z.latches n ≡ None) (sym is) none)))
 
 -- ---- one thread of a host

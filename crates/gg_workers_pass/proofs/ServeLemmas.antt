@@ -13,7 +13,7 @@ use Rattle.gg_net.specs.inside.Net.{entry_of}
 use Rattle.gg_net.proofs.PortLemmas.{any_port}
 use Rattle.gg_net.proofs.MachineLemmas.{own_serve}
 use Rattle.gg_net.proofs.PartLemmas.{own-may-serve, own-may-finish}
-use Rattle.gg_workers_pass.specs.inside.Tries.{ServeIsDue, ServeTried, FinishIsDue, FinishTried}
+use Rattle.gg_workers_pass.specs.inside.Tries.{ServeIsDue, ServeTried, FinishIsDue, FinishTriedIf}
 use Rattle.gg_workers_pass.specs.inside.Rows.{with_serves, ServesTried}
 use Rattle.gg_workers_pass.proofs.RowLemmas.{alone-more}
 
@@ -60,6 +60,7 @@ pub alone-serve : (first hosts after : List Machine) (thread : ℕ) → thread <
 alone-serve first hosts after thread within alone true t = alone-more first hosts after thread (with_served (machine_at hosts thread)) within alone t.step
 alone-serve first hosts after thread within alone false t = subst (λ all. all ≡ slice_set first thread (machine_at all thread)) (sym t.same) alone
 
-pub alone-finish : (first hosts after : List Machine) (thread : ℕ) → thread < length first → hosts ≡ slice_set first thread (machine_at hosts thread) → (b : Bool) → FinishTried hosts thread after b → after ≡ slice_set first thread (machine_at after thread)
-alone-finish first hosts after thread within alone true t = alone-more first hosts after thread (finished (machine_at hosts thread) t.state) within alone t.step
-alone-finish first hosts after thread within alone false t = subst (λ all. all ≡ slice_set first thread (machine_at all thread)) (sym t.same) alone
+pub alone-finish : (first hosts after : List Machine) (thread : ℕ) → thread < length first → hosts ≡ slice_set first thread (machine_at hosts thread) → (tried b : Bool) → FinishTriedIf tried hosts thread after b → after ≡ slice_set first thread (machine_at after thread)
+alone-finish first hosts after thread within alone true true t = alone-more first hosts after thread (finished (machine_at hosts thread) t.state) within alone t.step
+alone-finish first hosts after thread within alone false b t = subst (λ all. all ≡ slice_set first thread (machine_at all thread)) (sym t.1) alone
+alone-finish first hosts after thread within alone true false t = subst (λ all. all ≡ slice_set first thread (machine_at all thread)) (sym t.same) alone

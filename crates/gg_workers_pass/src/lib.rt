@@ -8,7 +8,7 @@
 //!   what the machines at its ends count. [`close_all`] closes the links again: each queue then holds the tokens between
 //!   the counts of the two machines.
 //! - [`take_out`] takes the seats of some channels out of the list of all seats, and [`put_back`] puts them back.
-//! - [`pass`] tries all events of one machine, if it is below a given cycle: a latch of each in, a fire of each out, its
+//! - [`pass_chosen`] tries the chosen events of one machine, and [`pass`] all of them, if it is below a given cycle: a latch of each in, a fire of each out, its
 //!   ports as long as one can be served, and the end of its cycle. Each is done exactly if, as far as the seats know, it
 //!   may be done. The machine stays one that the network can have, and its seats go on to count what it counts. None of its
 //!   counts falls, and none rises past the given cycle. What could be done before the pass, as far as the seats knew, was
@@ -18,6 +18,7 @@
 //! Only `open_all` allocates: it makes links.
 #![tactic(auto)]
 
+mod choice;
 mod close;
 mod era;
 mod machine_seats;
@@ -27,9 +28,10 @@ mod rows;
 mod seat_lists;
 mod tries;
 
+pub use choice::Chosen;
 pub use close::close_all;
 pub use era::Era;
 pub use machine_seats::MachineSeats;
 pub use open::open_all;
-pub use passes::pass;
+pub use passes::{pass, pass_chosen};
 pub use seat_lists::{put_back, take_out, unwrap_all, wrap_all};

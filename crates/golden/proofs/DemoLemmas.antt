@@ -13,11 +13,8 @@ use Rattle.gg_cut_plan.specs.Direct.{plan_hub}
 use Rattle.gg_flat.specs.Circuit.{FlatCircuit}
 use Rattle.gg_net.specs.inside.Fits.{HasLayout, marking_of}
 use Rattle.gg_net.specs.markings.Marking.{Layout, Marking, opening_marking}
-use Rattle.gg_measure.specs.inside.Nets.{net_left}
 use Rattle.gg_measure.proofs.NetLemmas.{can-run, left-is}
-use Rattle.gg_net.specs.Kept.{Kept}
-use Rattle.gg_net.specs.Net.{opening_net}
-use Rattle.gg_net.specs.Network.{Network, frame_of, kind_of}
+use Rattle.gg_net.specs.Network.{frame_of, kind_of}
 use Rattle.gg_order.specs.Design.{Ordered}
 use Rattle.gg_net.specs.inside.Counts.{counts_of}
 use Rattle.gg_net.specs.markings.Measure.{all_dues}
@@ -26,7 +23,7 @@ use Rattle.gg_net.proofs.MarkingsLemmas.EndLemmas.{opening-left}
 use Rattle.gg_cut_reference.specs.Follows.{plan_start}
 use Rattle.gg_cut_reference.specs.Links.{taken_as}
 use Rattle.gg_cut_reference.specs.whole.Whole.{plan_circuit}
-use Rattle.gg_build.specs.plan.Built.{IsGiven, no_token, wires_of_plan}
+use Rattle.gg_build.specs.plan.Built.{IsGiven}
 use Rattle.gg_rows.specs.inside.Sums.{AreSums, FoldsRows, sums_text}
 use Rattle.gg_rows.specs.Sums.{output_column}
 use Rattle.gg_rows.specs.declared.sums.Sums.{Sums}
@@ -44,11 +41,11 @@ use Rattle.golden_commands.specs.Replayed.{fed_flow}
 use Rattle.golden_commands.specs.declared.case.Fed.{Fed}
 use Rattle.golden_commands.proofs.AloneLemmas.{circuit-alone}
 use Rattle.golden_commands.proofs.CaseLemmas.{case-can, case-ordered}
-use Rattle.golden_commands.proofs.FedLemmas.{to-replay}
+use Rattle.golden_commands.proofs.FedLemmas.{fed-meaning, to-replay}
 use Rattle.golden_commands.proofs.FedLemmas as fed_setting
 use Rattle.golden_commands.proofs.HandedLemmas.{no-models}
 use Rattle.golden_commands.proofs.PartitionLemmas.{DesignsAgree}
-use Rattle.golden_commands.proofs.ReplayLemmas.{AreSet, are-set, laid, opens, setting_of}
+use Rattle.golden_commands.proofs.ReplayLemmas.{AreSet, are-set, begins, laid, setting_of}
 use Rattle.golden_commands.proofs.SettingLemmas.{circuits-same, cycles-same, layouts-same, rows-same}
 use Rattle.golden_commands.proofs.TextLemmas.{OneRun}
 
@@ -78,12 +75,12 @@ summary_by seed size circuit rows n layout =
     demo_summary seed size (length layout.turns) (length layout.links) (n * (2 * length layout.links + length layout.turns + all_dues layout)) (output_column circuit rows 0) (output_column circuit rows 1)
 
 -- settings that have these in common have the same summary
-summary-same : (seed size : ℕ) (a b : Setting) → plan_circuit a.design a.request [] ≡ plan_circuit b.design b.request [] → a.rows ≡ b.rows → a.cycles ≡ b.cycles → a.layout ≡ b.layout → setting_summary seed size a ≡ setting_summary seed size b
+summary-same : (seed size : ℕ) (a b : Setting) → plan_circuit a.meant.design a.meant.request [] ≡ plan_circuit b.meant.design b.meant.request [] → a.rows ≡ b.rows → a.meant.cycles ≡ b.meant.cycles → a.layout ≡ b.layout → setting_summary seed size a ≡ setting_summary seed size b
 summary-same seed size a b circuits rows cycles layouts =
-    ap (λ (c : FlatCircuit). summary_by seed size c a.rows a.cycles a.layout) circuits
-    ∙ ap (λ (r : List (List ℕ)). summary_by seed size (plan_circuit b.design b.request []) r a.cycles a.layout) rows
-    ∙ ap (λ n. summary_by seed size (plan_circuit b.design b.request []) b.rows n a.layout) cycles
-    ∙ ap (λ (l : Layout). summary_by seed size (plan_circuit b.design b.request []) b.rows b.cycles l) layouts
+    ap (λ (c : FlatCircuit). summary_by seed size c a.rows a.meant.cycles a.layout) circuits
+    ∙ ap (λ (r : List (List ℕ)). summary_by seed size (plan_circuit b.meant.design b.meant.request []) r a.meant.cycles a.layout) rows
+    ∙ ap (λ n. summary_by seed size (plan_circuit b.meant.design b.meant.request []) b.rows n a.layout) cycles
+    ∙ ap (λ (l : Layout). summary_by seed size (plan_circuit b.meant.design b.meant.request []) b.rows b.meant.cycles l) layouts
 
 -- ---- the network of a demo
 
@@ -126,20 +123,14 @@ module _ (seed size : ℕ) (fed : Fed) (is : IsFed (to_run []) (demo_circuit siz
       omega (arith, two, same, length-map design.circuit.outs (taken_as (plan_hub design.circuit design.tree request)))
 
   module _ (agree : DesignsAgree) (once : OneRun) (some : 0 < size) (whole : n ≡ demo_cycles size) (sums : Sums)
-      (are : AreSums fed.case.cut.plan fed.trace.columns n (fed_flow [] fed) (to-replay (to_run []) circuit partition trace demo_capacity fed is) sums) where
-    abbrev opening : Network
-    opening = opening_net are.opens.machines (wires_of_plan no_token fed.case.cut.plan) n
-
-    kept : Kept (fed_flow [] fed) opening
-    kept = subst (λ (x : Network). Kept (fed_flow [] fed) x) are.opens.is are.kept
-
-    own : (layout : Layout) × HasLayout (frame_of opening) layout × AreSet design fed.case.cut.request [] demo_capacity n fed.trace.columns ran layout × (marking_of opening ≡ opening_marking layout 0)
+      (are : AreSums (to-replay (to_run []) circuit partition trace demo_capacity fed is).run sums) where
+    own : (layout : Layout) × HasLayout (frame_of are.net) layout × AreSet design fed.case.cut.request [] demo_capacity n fed.trace.columns ran layout × (marking_of are.net ≡ opening_marking layout 0)
     own =
-        let l = laid design fed.case.cut.request [] demo_capacity fed.case.cut.plan fed.trace.columns n ran given are.opens.machines are.opens.built kept in (
+        let l = laid design fed.case.cut.request [] demo_capacity fed.case.cut.plan fed.trace.columns n ran given are.net are.opens are.kept in (
           l.0,
           l.1.1,
-          are-set design fed.case.cut.request [] demo_capacity fed.case.cut.plan fed.trace.columns n ran given are.opens.machines are.opens.built kept,
-          opens design fed.case.cut.request [] demo_capacity fed.case.cut.plan fed.trace.columns n ran given are.opens.machines are.opens.built kept,
+          are-set design fed.case.cut.request [] demo_capacity fed.case.cut.plan fed.trace.columns n ran given are.net are.opens are.kept,
+          begins design fed.case.cut.request [] demo_capacity fed.case.cut.plan fed.trace.columns n ran given are.net are.opens are.kept,
         )
 
     abbrev layout : Layout
@@ -149,17 +140,16 @@ module _ (seed size : ℕ) (fed : Fed) (is : IsFed (to_run []) (demo_circuit siz
     a = setting_of design fed.case.cut.request n fed.trace.columns ran layout
 
     machines : sums.machines ≡ length layout.turns
-    machines =
-        are.machines ∙ ap (λ (x : Network). length x.machines) are.opens.is ∙ sym (length-map are.opens.machines kind_of) ∙ sym own.1.machines
+    machines = are.machines ∙ sym (length-map are.net.machines kind_of) ∙ sym own.1.machines
 
     channels : sums.channels ≡ length layout.links
-    channels = are.channels ∙ ap (λ (x : Network). length x.wires) are.opens.is ∙ sym own.1.channels
+    channels = are.channels ∙ sym own.1.channels
 
     steps : sums.steps ≡ n * (2 * length layout.links + length layout.turns + all_dues layout)
     steps =
-        are.steps ∙ ap (λ (x : Network). net_left x) are.opens.is ∙ left-is (fed_flow [] fed) opening kept layout own.1
+        are.steps ∙ left-is (fed_flow [] fed) are.net are.kept layout own.1
         ∙ ap (λ (m : Marking). left layout (counts_of layout m)) own.3
-        ∙ opening-left layout (can-run (fed_flow [] fed) opening kept layout own.1) 0 (omega arith)
+        ∙ opening-left layout (can-run (fed_flow [] fed) are.net are.kept layout own.1) 0 (omega arith)
         ∙ ap (λ k. k * (2 * length layout.links + length layout.turns + all_dues layout)) (let e : layout.end - 0 ≡ n = omega (arith, own.2.laid.end) in e)
 
     text : sums_text seed size sums ≡ setting_summary seed size a
@@ -172,7 +162,7 @@ module _ (seed size : ℕ) (fed : Fed) (is : IsFed (to_run []) (demo_circuit siz
     -- the text for these sums is the summary of the demo, and there is no other
     pub sums-only : IsOnly (IsDemoText seed size) (sums_text seed size sums)
     sums-only =
-        let x : IsSetting (to_run []) circuit partition trace demo_capacity a = record { means = is.case.means; cuts = is.case.cuts; feeds = is.feeds.feeds; run = own.2.run; laid = own.2.laid } in
+        let x : IsSetting (to_run []) circuit partition trace demo_capacity a = record { is = fed-meaning (to_run []) circuit partition trace demo_capacity fed is; run = own.2.run; laid = own.2.laid } in
         record {
           is = (a, x, text);
           only = λ other told.

@@ -26,7 +26,7 @@ use Rattle.gg_snap.specs.text.Standing.{IsSnap}
 use Rattle.gg_trace.specs.Header.{field}
 use Rattle.gg_trace.specs.Ports.{IsNamed}
 use Rattle.gg_trace.specs.Trace.{Columns, header_of}
-use Rattle.golden_commands.specs.Meant.{AreMeant, Meant, meant_reference}
+use Rattle.golden_commands.specs.Meaning.{AreMeant, Meaning, meant_reference}
 use Rattle.golden_commands.specs.Partition.{Known}
 use Rattle.golden_commands.specs.RunText.{IsRunBy, fed_ports}
 use Rattle.golden_commands.proofs.AloneLemmas.{faultless-first}
@@ -71,18 +71,18 @@ module _ (ports : List Port) (bytes : List ℕ) where
 abbrev pub reference_order : Ordered → Request → List ℕ
 reference_order design request = range_with_len (length design.circuit.signals) (length (pipes_of (plan_hub design.circuit design.tree request))) ++ design.order
 
-module _ {known : Known} {circuit partition trace : List ℕ} {meant : Meant} (are : AreMeant known circuit partition trace meant) where
+module _ {known : Known} {circuit partition trace : List ℕ} {meant : Meaning} (are : AreMeant known circuit partition trace meant) where
   -- the request has no fault, its bridges aside
   pub meant-faultless : first_fault meant.design meant.request ≡ None
-  meant-faultless = faultless-first meant.design meant.request known.models are.cuts.faultless
+  meant-faultless = faultless-first meant.design meant.request known.models are.is.cuts.faultless
 
   -- no path of the circuit's signals begins with `pipe:`
   pub meant-fresh : IsFresh meant.design.circuit
-  meant-fresh = λ s path lt. none-piped circuit are.means.means.text.circuit meant.design.circuit are.means.means.text.spelt are.means.means.flattened s path
+  meant-fresh = λ s path lt. none-piped circuit are.is.means.means.text.circuit meant.design.circuit are.is.means.means.text.spelt are.is.means.means.flattened s path
 
   pub meant-paths : HavePaths meant.design.circuit meant.design.tree
   meant-paths =
-      have-paths circuit are.means.means.text.circuit meant.design.circuit meant.design.tree are.means.means.text.spelt are.means.means.flattened are.means.grown are.keeps.fitting are.keeps.scoped
+      have-paths circuit are.is.means.means.text.circuit meant.design.circuit meant.design.tree are.is.means.means.text.spelt are.is.means.means.flattened are.is.means.grown are.keeps.fitting are.keeps.scoped
 
   -- the reference circuit is well formed, and has an order
   pub meant-formed : IsWellFormed (meant_reference meant)
@@ -92,17 +92,17 @@ module _ {known : Known} {circuit partition trace : List ℕ} {meant : Meant} (a
   meant-ordered = plan-ordered meant.design meant.request are.designed are.keeps are.held meant-faultless
 
 -- two meanings of the same bytes
-module _ (agree : DesignsAgree) {known : Known} {circuit partition trace : List ℕ} (one other : Meant) (x : AreMeant known circuit partition trace one) (y : AreMeant known circuit partition trace other) where
+module _ (agree : DesignsAgree) {known : Known} {circuit partition trace : List ℕ} (one other : Meaning) (x : AreMeant known circuit partition trace one) (y : AreMeant known circuit partition trace other) where
   meant-alike : AreAlike one.design other.design
-  meant-alike = agree circuit one.design other.design x.means y.means
+  meant-alike = agree circuit one.design other.design x.is.means y.is.means
 
   meant-request : one.request ≡ other.request
-  meant-request = request-once partition one.request other.request x.cuts.asks y.cuts.asks
+  meant-request = request-once partition one.request other.request x.is.cuts.asks y.is.cuts.asks
 
   pub meant-given : (one.cycles ≡ other.cycles) × (one.columns ≡ other.columns)
   meant-given =
       columns-once (fed_ports other.design.circuit other.request) trace one.cycles other.cycles one.columns other.columns
-      (feeds-moved one.design.circuit other.design.circuit one.request other.request meant-alike.circuit meant-request trace one.cycles one.columns x.feeds) y.feeds
+      (feeds-moved one.design.circuit other.design.circuit one.request other.request meant-alike.circuit meant-request trace one.cycles one.columns x.is.feeds) y.is.feeds
 
   -- they differ in the order alone
   pub meant-is : one ≡ record other { design = record other.design { order = one.design.order } }
@@ -115,7 +115,7 @@ module _ (agree : DesignsAgree) {known : Known} {circuit partition trace : List 
 
   -- so a run of one is a run of the other, and a snapshot too
   pub meant-run : (models : Models) (rows : List (List ℕ)) → IsRunBy one.design one.request models one.columns one.cycles rows → IsRunBy other.design other.request models other.columns other.cycles rows
-  meant-run models rows run = subst (λ (m : Meant). IsRunBy m.design m.request models m.columns m.cycles rows) meant-is run
+  meant-run models rows run = subst (λ (m : Meaning). IsRunBy m.design m.request models m.columns m.cycles rows) meant-is run
 
   pub meant-snap : (snap : List ℕ) (cycle : ℕ) (state : State) → IsSnap (meant_reference one) one.design.tree snap cycle state → IsSnap (meant_reference other) other.design.tree snap cycle state
-  meant-snap snap cycle state is = subst (λ (m : Meant). IsSnap (meant_reference m) m.design.tree snap cycle state) meant-is is
+  meant-snap snap cycle state is = subst (λ (m : Meaning). IsSnap (meant_reference m) m.design.tree snap cycle state) meant-is is

@@ -15,7 +15,7 @@ use Rattle.gg_cut_plan.specs.Held.{AreHeldOnce}
 use Rattle.gg_cut_reference.specs.Follows.{plan_start}
 use Rattle.gg_cut_reference.proofs.StartLemmas.{plan-typed}
 use Rattle.gg_build.specs.plan.Built.{flow_of}
-use Rattle.gg_build.specs.inside.Build.{IsToRun}
+use Rattle.gg_build.specs.Build.{IsToRunFrom}
 use Rattle.gg_rows.proofs.TextLemmas.{shown-text}
 use Rattle.golden_commands.specs.Case.{IsFed}
 use Rattle.golden_commands.specs.Network.{IsNetworkText}
@@ -37,55 +37,55 @@ module _ (known : Known) (agree : DesignsAgree) (circuit partition trace : List 
   abbrev request : Request
   request = fed.case.cut.request
 
-  alike : AreAlike told.design design
-  alike = agree circuit told.design design told.means is.case.means
+  alike : AreAlike told.meant.design design
+  alike = agree circuit told.meant.design design told.is_meant.means is.case.means
 
-  one-request : told.request ≡ request
-  one-request = request-once partition told.request request told.cuts.asks is.case.cuts.asks
+  one-request : told.meant.request ≡ request
+  one-request = request-once partition told.meant.request request told.is_meant.cuts.asks is.case.cuts.asks
 
   -- the trace gives the same
-  given : (fed.trace.rows ≡ told.cycles) × (fed.trace.columns ≡ told.columns)
-  given = is.feeds.only told.cycles told.columns (feeds-moved told.design.circuit design.circuit told.request request alike.circuit one-request trace told.cycles told.columns told.feeds)
+  given : (fed.trace.rows ≡ told.meant.cycles) × (fed.trace.columns ≡ told.meant.columns)
+  given = is.feeds.only told.meant.cycles told.meant.columns (feeds-moved told.meant.design.circuit design.circuit told.meant.request request alike.circuit one-request trace told.meant.cycles told.meant.columns told.is_meant.feeds)
 
-  own-alike : AreAlike design told.design
-  own-alike = agree circuit design told.design is.case.means told.means
+  own-alike : AreAlike design told.meant.design
+  own-alike = agree circuit design told.meant.design is.case.means told.is_meant.means
 
-  own-run : IsRunBy told.design told.request known.models told.columns told.cycles rows
+  own-run : IsRunBy told.meant.design told.meant.request known.models told.meant.columns told.meant.cycles rows
   own-run =
-      alike-run known.models design told.design own-alike request told.request (sym one-request) told.columns told.cycles rows
-      (subst (λ (c : List (List ℕ)). IsRunBy design request known.models c told.cycles rows) given.1
+      alike-run known.models design told.meant.design own-alike request told.meant.request (sym one-request) told.meant.columns told.meant.cycles rows
+      (subst (λ (c : List (List ℕ)). IsRunBy design request known.models c told.meant.cycles rows) given.1
       (subst (λ (k : ℕ). IsRunBy design request known.models fed.trace.columns k rows) given.0 run))
 
-  own-columns : IsColumns (plan_circuit told.design told.request known.models) told.cycles told.columns
+  own-columns : IsColumns (plan_circuit told.meant.design told.meant.request known.models) told.meant.cycles told.meant.columns
   own-columns =
-      subst (λ (f : FlatCircuit). IsColumns f told.cycles told.columns) (circuit-same known.models design told.design own-alike request told.request (sym one-request))
-      (subst (λ (c : List (List ℕ)). IsColumns (plan_circuit design request known.models) told.cycles c) given.1
+      subst (λ (f : FlatCircuit). IsColumns f told.meant.cycles told.meant.columns) (circuit-same known.models design told.meant.design own-alike request told.meant.request (sym one-request))
+      (subst (λ (c : List (List ℕ)). IsColumns (plan_circuit design request known.models) told.meant.cycles c) given.1
       (subst (λ (k : ℕ). IsColumns (plan_circuit design request known.models) k fed.trace.columns) given.0 is.columns))
 
-  own-keeps : KeepsToTree told.design.circuit told.design.tree
+  own-keeps : KeepsToTree told.meant.design.circuit told.meant.design.tree
   own-keeps =
-      subst (λ (f : FlatCircuit). KeepsToTree f told.design.tree) (sym alike.circuit)
+      subst (λ (f : FlatCircuit). KeepsToTree f told.meant.design.tree) (sym alike.circuit)
       (subst (λ (t : InstanceTree). KeepsToTree design.circuit t) (sym alike.tree) is.case.keeps)
 
-  own-can : CanBridge told.design told.request known.models
+  own-can : CanBridge told.meant.design told.meant.request known.models
   own-can =
       record {
         design_is = told.designed;
         keeps = own-keeps;
         free = subst HasFreeFronts (sym alike.circuit) (case-can is.case).free;
-        faultless = told.cuts.faultless;
+        faultless = told.is_meant.cuts.faultless;
         are = (case-can is.case).are;
       }
 
   abbrev flow : Flow
-  flow = flow_of told.design told.request told.plan (plan_start told.design told.request) rows
+  flow = flow_of told.meant.design told.meant.request told.plan (plan_start told.meant.design told.meant.request) rows
 
   -- the plan's network can be built for this run
-  abbrev to-run : IsToRun told.plan told.columns told.cycles flow
+  abbrev to-run : IsToRunFrom told.plan (plan_start told.meant.design told.meant.request) told.meant.columns told.meant.cycles flow
   to-run =
       record {
-        design = told.design;
-        request = told.request;
+        design = told.meant.design;
+        request = told.meant.request;
         models = known.models;
         default = capacity;
         rows = rows;
@@ -96,9 +96,9 @@ module _ (known : Known) (agree : DesignsAgree) (circuit partition trace : List 
           planned = told.planned;
           most = omega (arith, is.most, given.0);
           given = own-columns;
-          typed = plan-typed told.design told.request;
+          typed = plan-typed told.meant.design told.meant.request;
           clocked = refl;
-          run = rows-of told.design told.request known.models told.columns told.cycles rows own-run;
+          run = rows-of told.meant.design told.meant.request known.models told.meant.columns told.meant.cycles rows own-run;
         };
         room = is.case.bounded.1;
         flow_is = refl;
@@ -107,8 +107,8 @@ module _ (known : Known) (agree : DesignsAgree) (circuit partition trace : List 
   pub network-only : other ≡ run_text fed.case.design fed.case.cut.request rows fed.trace.rows
   network-only =
       told.is
-      ∙ shown-text told.plan told.columns told.cycles flow to-run (shown_ports told.design told.request) told.told told.kept told.trays told.each told.ends
-      ∙ whole-text told.design told.request known.models own-can rows told.cycles
-      ∙ ap (λ (r : Request). run_text told.design r rows told.cycles) one-request
-      ∙ ap (λ (d : Ordered). run_text d request rows told.cycles) (alike-is told.design design alike)
+      ∙ shown-text told.plan (plan_start told.meant.design told.meant.request) told.meant.columns told.meant.cycles flow to-run refl (shown_ports told.meant.design told.meant.request) told.told told.kept told.trays told.each told.ends
+      ∙ whole-text told.meant.design told.meant.request known.models own-can rows told.meant.cycles
+      ∙ ap (λ (r : Request). run_text told.meant.design r rows told.meant.cycles) one-request
+      ∙ ap (λ (d : Ordered). run_text d request rows told.meant.cycles) (alike-is told.meant.design design alike)
       ∙ ap (run_text design request rows) (sym given.0)

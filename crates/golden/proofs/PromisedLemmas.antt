@@ -126,7 +126,7 @@ module _ {models : Models} {words : List (List ℕ)} {loads : Loads} {out err : 
         due : IsDueAccepted loads.files (order_of models (Resume circuit partition trace snap capacity workers))
         due =
             let are = can.3 in
-            (c, hc, lc, are.means.means.text, (p, hp, lp, fits, (t, ht, lt, (can.0.design.circuit, are.means.means, (can.0.request, are.cuts.asks, (can.0.cycles, can.0.columns, are.feeds))), (s, hs, ls, can, tt))))
+            (c, hc, lc, are.is.means.means.text, (p, hp, lp, fits, (t, ht, lt, (can.0.design.circuit, are.is.means.means, (can.0.request, are.is.cuts.asks, (can.0.cycles, can.0.columns, are.is.feeds))), (s, hs, ls, can, tt))))
 
         by : (status ≡ 0) ⊎ (status ≡ 5) → ((status ≡ 0) × ((text : List ℕ) × (out.after ≡ append_known out.before text) × IsRestOf at whole text)) ⊎ (status ≡ 5)
         by (inr wanted) = inr wanted
@@ -247,9 +247,9 @@ module _ {models : Models} {words : List (List ℕ)} {loads : Loads} {out err : 
           let asked : Asked = asking circuit partition capacity in
           let said : Said = stopped_said setting s stopped in
           let refuses : TellsSteps (to_run models) c p t capacity s said = (setting, is, (stopped, stops, refl)) in
-          tells-later command asked c p said asks refl hc lc is.means.means.text hp lp (setting.design, is.means, (setting.request, is.cuts))
+          tells-later command asked c p said asks refl hc lc is.is.means.means.text hp lp (setting.meant.design, is.is.means, (setting.meant.request, is.is.cuts))
           (later-only loads.files (trace_file_for c p trace) (λ b. Load (steps_file_for (to_run models) c p b capacity steps) (λ x. Write (IsReplayOf (to_run models) c p b capacity x))) t said (((exact command).1 c).1 p).0 ht lt
-          (setting.design.circuit, is.means.means, (setting.request, is.cuts.asks, (setting.cycles, setting.columns, is.feeds)))
+          (setting.meant.design.circuit, is.is.means.means, (setting.meant.request, is.is.cuts.asks, (setting.meant.cycles, setting.meant.columns, is.is.feeds)))
           (first-only loads.files (steps_file_for (to_run models) c p t capacity steps) _ s said ((((exact command).1 c).1 p).1 t).0 hs ls refuses (λ other h. (((unique command asked c).1 p).1 t).0 s other said h refuses)))
 
     pub promised : OneMeaning → OneRequest → UniqueOrders models → OneReading → SavedIsAccepted models → ResumedIsTheRest models

@@ -22,7 +22,7 @@ use Rattle.gg_io.specs.Said.{Said}
 use Rattle.gg_io.proofs.OrderLemmas.{exact-by}
 use Rattle.gg_trace.specs.Printing.{text_from}
 use Rattle.golden_commands.specs.Lines.{few_rows, snap_fault}
-use Rattle.golden_commands.specs.Meant.{AreMeant, Meant, meant_reference}
+use Rattle.golden_commands.specs.Meaning.{AreMeant, Meaning, meant_reference}
 use Rattle.golden_commands.specs.Resumed.{CanBeResumed, HasRest, IsResumedText, TellsLate, TellsNoSnap, rest_rows, rest_text, snap_file_for, start_at}
 use Rattle.golden_commands.specs.Partition.{Known, to_save}
 use Rattle.golden_commands.specs.RunText.{columns_of, outputs_kept, shown_ports, stops_kept}
@@ -51,16 +51,16 @@ OneSnapFault = (circuit : FlatCircuit) (tree : InstanceTree) (text : List ℕ) (
 -- ---- the file of a snapshot
 
 module _ (models : Models) (agree : DesignsAgree) (can : PlansCanSave) (right : NoSnapFault) (one-cycle : OneCycle) (one-fault : OneSnapFault) (circuit partition trace : List ℕ) where
-  can-save : {meant : Meant} → AreMeant (to_save models) circuit partition trace meant → CanSave (meant_reference meant) meant.design.tree
+  can-save : {meant : Meaning} → AreMeant (to_save models) circuit partition trace meant → CanSave (meant_reference meant) meant.design.tree
   can-save {meant = meant} are = can meant.design meant.request are.designed are.keeps are.held (meant-paths are) (meant-faultless are)
 
   -- a snapshot for one meaning of the bytes has no fault for another
-  fault-apart : (snap : List ℕ) (one other : Meant) (cycle line : ℕ) (state : State) → AreMeant (to_save models) circuit partition trace one → AreMeant (to_save models) circuit partition trace other
+  fault-apart : (snap : List ℕ) (one other : Meaning) (cycle line : ℕ) (state : State) → AreMeant (to_save models) circuit partition trace one → AreMeant (to_save models) circuit partition trace other
       → IsSnap (meant_reference one) one.design.tree snap cycle state → IsFirstFault (meant_reference other) other.design.tree snap line → ⊥
   fault-apart snap one other cycle line state x y is first =
       right (meant_reference other) other.design.tree snap cycle line state (can-save y) (meant-snap agree one other x y snap cycle state is) first
 
-  cycle-same : (snap : List ℕ) (one other : Meant) (c d : ℕ) (s t : State) → AreMeant (to_save models) circuit partition trace one → AreMeant (to_save models) circuit partition trace other
+  cycle-same : (snap : List ℕ) (one other : Meaning) (c d : ℕ) (s t : State) → AreMeant (to_save models) circuit partition trace one → AreMeant (to_save models) circuit partition trace other
       → IsSnap (meant_reference one) one.design.tree snap c s → IsSnap (meant_reference other) other.design.tree snap d t → c ≡ d
   cycle-same snap one other c d s t x y is own = one-cycle (meant_reference other) other.design.tree snap c d s t (meant-snap agree one other x y snap c s is) own
 
@@ -80,7 +80,7 @@ module _ (models : Models) (agree : DesignsAgree) (can : PlansCanSave) (right : 
   no-snap-once snap said other (one, line, x, first, told) (another, line', y, first', told') =
       told
       ∙ ap (λ (l : ℕ). snap_fault (fault_words (S1 l)))
-      (one-fault (meant_reference another) another.design.tree snap line line' (subst (λ (m : Meant). IsFirstFault (meant_reference m) m.design.tree snap line) (meant-is agree one another x y) first) first')
+      (one-fault (meant_reference another) another.design.tree snap line line' (subst (λ (m : Meaning). IsFirstFault (meant_reference m) m.design.tree snap line) (meant-is agree one another x y) first) first')
       ∙ sym told'
 
   late-once : (snap : List ℕ) (said other : Said) → TellsLate (to_save models) circuit partition trace snap said → TellsLate (to_save models) circuit partition trace snap other → said ≡ other
@@ -104,7 +104,7 @@ module _ (models : Models) (agree : DesignsAgree) (can : PlansCanSave) (right : 
 -- ---- the text
 
 -- the rows of two runs from the same snapshot have the same text
-rest-same : (meant : Meant) (cycle : ℕ) (state : State) (rows others : List (List ℕ)) {known : Known} {circuit partition trace : List ℕ} → AreMeant known circuit partition trace meant
+rest-same : (meant : Meaning) (cycle : ℕ) (state : State) (rows others : List (List ℕ)) {known : Known} {circuit partition trace : List ℕ} → AreMeant known circuit partition trace meant
     → AreRows (meant_reference meant) (start_at meant cycle state) meant.columns meant.cycles rows → AreRows (meant_reference meant) (start_at meant cycle state) meant.columns meant.cycles others
     → rest_text meant cycle rows ≡ rest_text meant cycle others
 rest-same meant cycle state rows others are run ran =
@@ -116,7 +116,7 @@ rest-same meant cycle state rows others are run ran =
     (stops_kept meant.design meant.request) (meant.cycles - cycle))
 
 -- the text is the only one
-pub resumed-only : DesignsAgree → {known : Known} {circuit partition trace snap : List ℕ} (meant : Meant) (cycle : ℕ) (state : State) (rows : List (List ℕ)) → HasRest known circuit partition trace snap meant cycle state rows
+pub resumed-only : DesignsAgree → {known : Known} {circuit partition trace snap : List ℕ} (meant : Meaning) (cycle : ℕ) (state : State) (rows : List (List ℕ)) → HasRest known circuit partition trace snap meant cycle state rows
     → IsOnly (IsResumedText known circuit partition trace snap) (rest_text meant cycle rows)
 resumed-only agree {known} {circuit} {partition} {trace} {snap} meant cycle state rows has = record { is = (meant, cycle, state, rows, has, refl); only = only }
   where
@@ -124,9 +124,9 @@ resumed-only agree {known} {circuit} {partition} {trace} {snap} meant cycle stat
     only text (other, c, s, others, y, is) =
         let same = has.only c s (meant-snap agree other meant y.are has.are snap c s y.reads) in
         let moved : AreRows (meant_reference meant) (start_at meant c s) meant.columns meant.cycles others =
-        subst (λ (m : Meant). AreRows (meant_reference m) (start_at m c s) m.columns m.cycles others) (meant-is agree other meant y.are has.are) y.run in
+        subst (λ (m : Meaning). AreRows (meant_reference m) (start_at m c s) m.columns m.cycles others) (meant-is agree other meant y.are has.are) y.run in
         is
-        ∙ ap (λ (m : Meant). rest_text m c others) (meant-is agree other meant y.are has.are)
+        ∙ ap (λ (m : Meaning). rest_text m c others) (meant-is agree other meant y.are has.are)
         ∙ ap (λ (k : ℕ). rest_text meant k others) same.0
         ∙ rest-same meant cycle state others rows has.are
         (subst (λ (k : ℕ). AreRows (meant_reference meant) (start_at meant k state) meant.columns meant.cycles others) same.0

@@ -9,7 +9,7 @@ use Rattle.gg_snap.specs.text.Lines.{snap_text}
 use Rattle.gg_io.specs.Order.{IsExactFile, IsJudgement, IsOnly, IsUniqueFile}
 use Rattle.gg_io.specs.Said.{Said}
 use Rattle.golden_commands.specs.Lines.{few_rows}
-use Rattle.golden_commands.specs.Meant.{Meant, meant_reference, meant_values}
+use Rattle.golden_commands.specs.Meaning.{Meaning, meant_reference, meant_values}
 use Rattle.golden_commands.specs.Partition.{to_save}
 use Rattle.golden_commands.specs.Run.{TellsTraceFor}
 use Rattle.golden_commands.specs.RunText.{fed_ports}
@@ -22,13 +22,13 @@ use Rattle.golden.proofs.TraceLemmas.{NoFault, OneFirstFault, fault-moved, trace
 
 module _ (models : Models) (agree : DesignsAgree) where
   -- two runs of the same bytes
-  module _ {circuit partition trace : List ℕ} (one other : Meant) (rows others : List (List ℕ)) (x : HasRun (to_save models) circuit partition trace one rows) (y : HasRun (to_save models) circuit partition trace other others) where
+  module _ {circuit partition trace : List ℕ} (one other : Meaning) (rows others : List (List ℕ)) (x : HasRun (to_save models) circuit partition trace one rows) (y : HasRun (to_save models) circuit partition trace other others) where
     -- for `save` no bridge is asked for, so they are runs of the reference circuit
     alone-x : IsRunFrom (meant_reference other) (plan_start other.design other.request) other.columns other.cycles rows
-    alone-x = run-alone other.design other.request (y.are.cuts.alone refl) models other.columns other.cycles rows (meant-run agree one other x.are y.are models rows x.run)
+    alone-x = run-alone other.design other.request (y.are.is.cuts.alone refl) models other.columns other.cycles rows (meant-run agree one other x.are y.are models rows x.run)
 
     alone-y : IsRunFrom (meant_reference other) (plan_start other.design other.request) other.columns other.cycles others
-    alone-y = run-alone other.design other.request (y.are.cuts.alone refl) models other.columns other.cycles others y.run
+    alone-y = run-alone other.design other.request (y.are.is.cuts.alone refl) models other.columns other.cycles others y.run
 
     run-same : rows ≡ others
     run-same =
@@ -36,15 +36,15 @@ module _ (models : Models) (agree : DesignsAgree) where
         (meant-ordered y.are) alone-x alone-y
 
     limit-same : save_limit one rows ≡ save_limit other others
-    limit-same = ap (λ (m : Meant). save_limit m rows) (meant-is agree one other x.are y.are) ∙ ap (save_limit other) run-same
+    limit-same = ap (λ (m : Meaning). save_limit m rows) (meant-is agree one other x.are y.are) ∙ ap (save_limit other) run-same
 
     saved-same : (at : ℕ) → snap_text (meant_values one) at (state_before one rows at) ≡ snap_text (meant_values other) at (state_before other others at)
     saved-same at =
-        ap (λ (m : Meant). snap_text (meant_values m) at (state_before m rows at)) (meant-is agree one other x.are y.are)
+        ap (λ (m : Meaning). snap_text (meant_values m) at (state_before m rows at)) (meant-is agree one other x.are y.are)
         ∙ ap (λ (r : List (List ℕ)). snap_text (meant_values other) at (state_before other r at)) run-same
 
   -- the text is the only one
-  pub saved-only : {circuit partition trace : List ℕ} (meant : Meant) (rows : List (List ℕ)) → HasRun (to_save models) circuit partition trace meant rows → (at : ℕ) → at ≤ save_limit meant rows
+  pub saved-only : {circuit partition trace : List ℕ} (meant : Meaning) (rows : List (List ℕ)) → HasRun (to_save models) circuit partition trace meant rows → (at : ℕ) → at ≤ save_limit meant rows
       → IsOnly (IsSavedText (to_save models) circuit partition at trace) (snap_text (meant_values meant) at (state_before meant rows at))
   saved-only {circuit} {partition} {trace} meant rows has at le = record { is = (meant, rows, has, le, refl); only = only }
     where
@@ -55,10 +55,10 @@ module _ (models : Models) (agree : DesignsAgree) where
 
   module _ (flat : OneFlat) (one-fault : OneFirstFault) (none : NoFault) (circuit partition : List ℕ) (at : ℕ) where
     -- a trace with a run has no fault
-    run-apart : (trace : List ℕ) (meant : Meant) (rows : List (List ℕ)) (said : Said) → HasRun (to_save models) circuit partition trace meant rows → TellsTraceFor circuit partition trace said → ⊥
+    run-apart : (trace : List ℕ) (meant : Meaning) (rows : List (List ℕ)) (said : Said) → HasRun (to_save models) circuit partition trace meant rows → TellsTraceFor circuit partition trace said → ⊥
     run-apart trace meant rows said has (other, means, (request, asks, (fault, first, is))) =
-        none (fed_ports meant.design.circuit meant.request) trace meant.cycles meant.columns fault has.are.feeds
-        (fault-moved other meant.design.circuit request meant.request (flat circuit other meant.design.circuit means has.are.means.means) (request-once partition request meant.request asks has.are.cuts.asks) trace fault first)
+        none (fed_ports meant.design.circuit meant.request) trace meant.cycles meant.columns fault has.are.is.feeds
+        (fault-moved other meant.design.circuit request meant.request (flat circuit other meant.design.circuit means has.are.is.means.means) (request-once partition request meant.request asks has.are.is.cuts.asks) trace fault first)
 
     few-apart : (trace : List ℕ) (said other : Said) → TellsFew (to_save models) circuit partition at trace said → TellsTraceFor circuit partition trace other → ⊥
     few-apart trace said other (meant, rows, has, lt, is) told = run-apart trace meant rows other has told

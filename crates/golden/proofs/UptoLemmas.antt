@@ -20,11 +20,10 @@ use Rattle.gg_cut_plan.specs.Plan.{IsBody, IsPlan}
 use Rattle.gg_cut_plan.specs.declared.plan.Body.{Body}
 use Rattle.gg_cut_plan.specs.declared.plan.Plan.{Plan}
 use Rattle.gg_net.specs.Network.{AllStandAt}
-use Rattle.gg_rows.proofs.OpeningLemmas.{from-zeros}
 use Rattle.gg_rows.proofs.OutputLemmas.{net-stays, opening-is-net}
 use Rattle.gg_cut_reference.specs.whole.Whole.{plan_circuit}
-use Rattle.gg_build.specs.inside.Build.{HasBridges, IsToRun, run_from_zeros}
-use Rattle.gg_build.specs.Build.{IsOpeningOf, circuit_order, circuit_rows, run_token}
+use Rattle.gg_build.specs.inside.Build.{HasBridges}
+use Rattle.gg_build.specs.Build.{IsOpeningFrom, circuit_order, circuit_rows, run_token}
 use Rattle.gg_build.proofs.AlongLemmas.{given-along}
 use Rattle.gg_build.specs.plan.Built.{IsGiven, nameless}
 use Rattle.gg_flat.specs.State.{State}
@@ -53,7 +52,7 @@ use Rattle.golden_commands.specs.Commands.{Asked, read_order}
 use Rattle.golden_commands.specs.Lines.{few_rows}
 use Rattle.golden_commands.specs.Partition.{Known, to_save}
 use Rattle.golden_commands.specs.RunText.{shown_ports}
-use Rattle.golden_commands.specs.inside.Replayed.{IsToReplay}
+use Rattle.golden_commands.specs.inside.Replayed.{IsToReplay, fed_start}
 use Rattle.golden_commands.specs.Replayed.{fed_flow}
 use Rattle.golden_commands.specs.inside.Runs.{FindsStop, Halted, IsUpto, Short, TellsEarly, meant_by, text_after, upto}
 use Rattle.golden_commands.specs.Saved.{CanBeSaved, HasRun, IsSavedText, TellsFew, save_limit, saved_file_for}
@@ -67,11 +66,9 @@ use Rattle.golden.proofs.SavedLemmas.{saved-only}
 
 -- What is told of a network of the first rows, for the whole run.
 pub record UptoGives (models : Models) (circuit partition trace : List ℕ) (cycles at : ℕ) (fed : Fed) : Type 0 where
-  pub run : IsToReplay fed (fed_flow models fed)
-  pub of_design : run.design ≡ fed.case.design
-  pub of_request : run.request ≡ fed.case.cut.request
-  pub saves : FindsStop fed run cycles None → at ≤ cycles → CanBeSaved (to_save models) circuit partition at trace × IsOnly (IsSavedText (to_save models) circuit partition at trace) (text_after fed run)
-  pub tells : (said : Said) → TellsEarly fed run cycles at said → TellsFew (to_save models) circuit partition at trace said
+  pub replay : IsToReplay fed (fed_flow models fed)
+  pub saves : FindsStop fed replay cycles None → at ≤ cycles → CanBeSaved (to_save models) circuit partition at trace × IsOnly (IsSavedText (to_save models) circuit partition at trace) (text_after fed replay)
+  pub tells : (said : Said) → TellsEarly fed replay cycles at said → TellsFew (to_save models) circuit partition at trace said
 
 module _ (models : Models) (agree : DesignsAgree) (circuit partition trace : List ℕ) (capacity : ℕ) (whole : Fed) (is : IsFed (to_save models) circuit partition trace capacity whole) (m : ℕ) (within : m ≤ whole.trace.rows) where
   abbrev design : Ordered
@@ -116,7 +113,12 @@ module _ (models : Models) (agree : DesignsAgree) (circuit partition trace : Lis
 
   -- the network of the first rows can be run
   abbrev run-upto : IsToReplay (upto m whole) (fed_flow models (upto m whole))
-  run-upto = record { design = design; request = request; models = models; default = capacity; rows = front; given = front-given; room = is.case.bounded.1; flow_is = refl }
+  run-upto =
+      record {
+        run = record { design = design; request = request; models = models; default = capacity; rows = front; given = front-given; room = is.case.bounded.1; flow_is = refl };
+        of_design = refl;
+        of_request = refl;
+      }
 
   has-run : HasRun (to_save models) circuit partition trace (meant_by whole) rows
   has-run = record { are = fed-are (to_save models) circuit partition trace capacity whole is; run = own-run (to_save models) circuit partition trace capacity whole is }
@@ -161,9 +163,7 @@ module _ (models : Models) (agree : DesignsAgree) (circuit partition trace : Lis
   gives-so : (at : ℕ) → m ≤ at → (m ≡ at) ⊎ (m ≡ n) → UptoGives models circuit partition trace n at (upto m whole)
   gives-so at low which =
       record {
-        run = run-upto;
-        of_design = refl;
-        of_request = refl;
+        replay = run-upto;
         saves = λ none le. saves-so at (same which le) none;
         tells = tells-so at which low;
       }
@@ -194,49 +194,49 @@ none-asked piece state bridges none design request models default plan planned a
 -- ---- the snapshot
 
 -- a network that has the frame of a plan's network, and has done all of its cycles, stands at its end
-pub stands-end : (plan : Plan) (columns : List (List ℕ)) (n : ℕ) (flow : Flow) (run : IsToRun plan columns n flow) (opening net : Network) → IsOpeningOf plan columns n opening → frame_of net ≡ frame_of opening → AllStandAt opening.end net
-    → StandsAt plan (plan_start run.design run.request) (run_token (run_from_zeros run)) columns n n net
-stands-end plan columns n flow run opening net opens frame all =
-    let start = plan_start run.design run.request in
-    let token = run_token (run_from_zeros run) in
+pub stands-end : (plan : Plan) (start : Start) (token : ℕ → ℕ) (columns : List (List ℕ)) (n : ℕ) (opening net : Network) → IsOpeningFrom plan start token columns n opening → frame_of net ≡ frame_of opening → AllStandAt opening.end net → StandsAt plan start token columns n n net
+stands-end plan start token columns n opening net opens frame all =
     let end : opening.end ≡ n = ap (λ (x : Network). x.end) opens.is in
     record {
-      of_plan = net-stays plan start token columns n opening net (opening-is-net plan start token columns n opening (from-zeros plan columns n flow run opening opens)) frame;
+      of_plan = net-stays plan start token columns n opening net (opening-is-net plan start token columns n opening opens) frame;
       all = subst (λ k. AllStandAt k net) end all;
       within = omega arith;
     }
 
-module _ (fed : Fed) (flow : Flow) (run : IsToReplay fed flow) (design : run.design ≡ fed.case.design) (request : run.request ≡ fed.case.cut.request) (alone : fed.case.cut.request.bridges ≡ []) (net : Network) (cycle : ℕ) (same : cycle ≡ fed.trace.rows)
-    (stands : StandsAt fed.case.cut.plan (plan_start run.design run.request) (run_token (run_from_zeros run)) fed.trace.columns fed.trace.rows fed.trace.rows net) where
+module _ (fed : Fed) (flow : Flow) (replay : IsToReplay fed flow) (alone : fed.case.cut.request.bridges ≡ []) (net : Network) (cycle : ℕ) (same : cycle ≡ fed.trace.rows)
+    (stands : StandsAt fed.case.cut.plan (fed_start fed) (run_token replay.run) fed.trace.columns fed.trace.rows fed.trace.rows net) where
   abbrev Ended : (start : Start) (columns : List (List ℕ)) (cycle : ℕ) → Type 0
   Ended start columns cycle = HasEnded fed.case.cut.plan fed.case.design start columns cycle flow net
 
-  abbrev ended : Ended (plan_start run.design run.request) fed.trace.columns fed.trace.rows
-  ended = record { run = run_from_zeros run; of_design = design; alone = ap (λ (r : Request). r.bridges) request ∙ alone; stands = stands }
+  abbrev ended : Ended (fed_start fed) fed.trace.columns fed.trace.rows
+  ended = record { run = replay.run; of_design = replay.of_design; alone = ap (λ (r : Request). r.bridges) replay.of_request ∙ alone; stands = stands }
 
-  reference-is : plan_reference fed.case.design fed.case.cut.request ≡ plan_reference run.design run.request
-  reference-is = ap₂ plan_reference (sym design) (sym request)
+  abbrev own_reference : FlatCircuit
+  own_reference = plan_reference replay.run.design replay.run.request
+
+  reference-is : plan_reference fed.case.design fed.case.cut.request ≡ own_reference
+  reference-is = ap₂ plan_reference (sym replay.of_design) (sym replay.of_request)
 
   -- the network has ended, and the circuit is that of its run
   pub has-ended : (circuit : FlatCircuit) → circuit ≡ plan_reference fed.case.design fed.case.cut.request
       → (start : Start) × (columns : List (List ℕ)) × (ended : HasEnded fed.case.cut.plan fed.case.design start columns cycle flow net) × (circuit ≡ plan_reference ended.run.design ended.run.request)
   has-ended circuit made =
       subst (λ k. (start : Start) × (columns : List (List ℕ)) × (ended : Ended start columns k) × (circuit ≡ plan_reference ended.run.design ended.run.request)) (sym same)
-      (plan_start run.design run.request, fed.trace.columns, ended, made ∙ reference-is)
+      (fed_start fed, fed.trace.columns, ended, made ∙ reference-is)
 
   -- the text of the snapshot of the state in which it has ended
   pub after-is : (snap : Snapshot) (made : Ordered) (text : List ℕ) → snap.design ≡ made → made.circuit ≡ plan_reference fed.case.design fed.case.cut.request → made.tree ≡ fed.case.design.tree → snap.cycle ≡ cycle
       → ((start : Start) (columns : List (List ℕ)) (ended : HasEnded fed.case.cut.plan fed.case.design start columns cycle flow net) → snap.state ≡ last_state ended.run)
-      → IsSnap snap.design.circuit snap.design.tree text snap.cycle snap.state → text ≡ text_after fed run
+      → IsSnap snap.design.circuit snap.design.tree text snap.cycle snap.state → text ≡ text_after fed replay
   after-is snap made text of circuit tree at told is =
-      let state : snap.state ≡ state_at (plan_reference run.design run.request) (plan_start run.design run.request) run.rows fed.trace.rows =
-      subst (λ k. (start : Start) (columns : List (List ℕ)) (ended : Ended start columns k) → snap.state ≡ last_state ended.run) same told (plan_start run.design run.request) fed.trace.columns ended in
+      let state : snap.state ≡ state_at own_reference (fed_start fed) replay.run.rows fed.trace.rows =
+      subst (λ k. (start : Start) (columns : List (List ℕ)) (ended : Ended start columns k) → snap.state ≡ last_state ended.run) same told (fed_start fed) fed.trace.columns ended in
       is.is
       ∙ ap (λ (d : Ordered). snap_text (rows_of d.circuit d.tree) snap.cycle snap.state) of
       ∙ ap (λ (f : FlatCircuit). snap_text (rows_of f made.tree) snap.cycle snap.state) (circuit ∙ reference-is)
-      ∙ ap (λ (t : InstanceTree). snap_text (rows_of (plan_reference run.design run.request) t) snap.cycle snap.state) (tree ∙ ap (λ (d : Ordered). d.tree) (sym design))
-      ∙ ap (λ k. snap_text (rows_of (plan_reference run.design run.request) run.design.tree) k snap.state) (at ∙ same)
-      ∙ ap (snap_text (rows_of (plan_reference run.design run.request) run.design.tree) fed.trace.rows) state
+      ∙ ap (λ (t : InstanceTree). snap_text (rows_of own_reference t) snap.cycle snap.state) (tree ∙ ap (λ (d : Ordered). d.tree) (sym replay.of_design))
+      ∙ ap (λ k. snap_text (rows_of own_reference replay.run.design.tree) k snap.state) (at ∙ same)
+      ∙ ap (snap_text (rows_of own_reference replay.run.design.tree) fed.trace.rows) state
 
 -- ---- ends
 

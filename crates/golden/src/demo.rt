@@ -153,9 +153,9 @@ fn sum_fed<R: Threads + Sync, Z: Streams, G: Gate + Sync>(
     gate: &G,
 ) -> Result<Sums, AllocError>
     requires few { workers ≤ 64 }
-    requires run { (run : IsToReplay fed.now Z.flow) × (run.design ≡ fed.now.case.design) × (2 ≤ length (plan_circuit run.design run.request run.models).outs) }
+    requires run { (replay : IsToReplay fed.now Z.flow) × (2 ≤ length (plan_circuit replay.run.design replay.run.request replay.run.models).outs) }
     requires none { NeedsNone fed.now.case.cut.plan }
-    ensures { IfOk result (λ sums. (run : IsToReplay fed.now Z.flow) → run.design ≡ fed.now.case.design → AreSums fed.now.case.cut.plan fed.now.trace.columns fed.now.trace.rows Z.flow run sums) }
+    ensures { IfOk result (λ sums. (replay : IsToReplay fed.now Z.flow) → AreSums replay.run sums) }
 {
     let case = &fed.case;
     sum_net::<R, Echo, Z, G>(

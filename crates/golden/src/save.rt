@@ -1,10 +1,8 @@
 //! The command `save`.
 ghost use Rattle.std.specs.Prelude.{◌≡◌, ◌≤◌, ℕ, List, None, IfErr, IfOk};
-ghost use Rattle.gg_build.specs.inside.Build.{run_from_zeros};
 ghost use Rattle.gg_build.specs.Build.{run_token};
 ghost use Rattle.gg_cut_plan.specs.Bridges.{Models};
 ghost use Rattle.gg_bits.specs.Limits.{cycle_limit};
-ghost use Rattle.gg_cut_reference.specs.Follows.{plan_start};
 ghost use Rattle.gg_build.specs.StandsAt.{StandsAt};
 ghost use Rattle.gg_io.specs.inside.Endings.{EndedOn, IfRefused, PrintsOrStops};
 ghost use Rattle.gg_io.specs.Ends.{loads_of, puts_of};
@@ -15,7 +13,7 @@ ghost use Rattle.golden_commands.specs.Case.{IsCase, IsFed};
 ghost use Rattle.golden_commands.specs.Commands.{asking, read_order};
 ghost use Rattle.golden_commands.specs.Handed.{AreHandedIn};
 ghost use Rattle.golden_commands.specs.Partition.{to_save};
-ghost use Rattle.golden_commands.specs.inside.Replayed.{IsToReplay};
+ghost use Rattle.golden_commands.specs.inside.Replayed.{IsToReplay, fed_start};
 ghost use Rattle.golden_commands.specs.inside.Runs.{FindsStop, IsUpto, TellsEarly, text_after};
 ghost use Rattle.golden_commands.specs.Saved.{CanBeSaved, IsSavedText, TellsFew, saved_file_for};
 
@@ -45,11 +43,10 @@ fn run_upto<'f, R: Threads + Sync, Z: Streams, G: Gate + Sync>(
 ) -> Result<(Net<Node<'f, Echo>, Z>, Option<u64>), Ending>
     requires few { workers ≤ 64 }
     requires case { (models : Models) × (circuit : List ℕ) × (partition : List ℕ) × (capacity : ℕ) × IsCase (to_save models) circuit partition capacity fed.now.case }
-    requires run { (run : IsToReplay fed.now Z.flow) × (run.design ≡ fed.now.case.design) × (run.request ≡ fed.now.case.cut.request) }
-    ensures first { IfOk result (λ r. (run : IsToReplay fed.now Z.flow) → run.design ≡ fed.now.case.design → run.request ≡ fed.now.case.cut.request → FindsStop fed.now run cycles r.1) }
-    ensures stands { IfOk result (λ r. r.1 ≡ None → (run : IsToReplay fed.now Z.flow)
-        → StandsAt fed.now.case.cut.plan (plan_start run.design run.request)
-        (run_token (run_from_zeros run)) fed.now.trace.columns fed.now.trace.rows fed.now.trace.rows r.0) }
+    requires run { IsToReplay fed.now Z.flow }
+    ensures first { IfOk result (λ r. (replay : IsToReplay fed.now Z.flow) → FindsStop fed.now replay cycles r.1) }
+    ensures stands { IfOk result (λ r. r.1 ≡ None → (replay : IsToReplay fed.now Z.flow)
+        → StandsAt fed.now.case.cut.plan (fed_start fed.now) (run_token replay.run) fed.now.trace.columns fed.now.trace.rows fed.now.trace.rows r.0) }
     ensures refused { IfErr result (λ ending. ending ≡ Ending.NoMemory) }
 {
     let design = &fed.case.design;
@@ -78,10 +75,10 @@ fn text_of<Z: Streams>(
     net: &Net<Node<'_, Echo>, Z>,
 ) -> Result<Name, AllocError>
     requires case { (models : Models) × (circuit : List ℕ) × (partition : List ℕ) × (capacity : ℕ) × IsCase (to_save models) circuit partition capacity fed.now.case }
-    requires run { (run : IsToReplay fed.now Z.flow) × (run.design ≡ fed.now.case.design) × (run.request ≡ fed.now.case.cut.request)
-        × StandsAt fed.now.case.cut.plan (plan_start run.design run.request) (run_token (run_from_zeros run)) fed.now.trace.columns fed.now.trace.rows fed.now.trace.rows net.now }
-    ensures { IfOk result (λ text. (run : IsToReplay fed.now Z.flow) → run.design ≡ fed.now.case.design → run.request ≡ fed.now.case.cut.request
-        → StandsAt fed.now.case.cut.plan (plan_start run.design run.request) (run_token (run_from_zeros run)) fed.now.trace.columns fed.now.trace.rows fed.now.trace.rows net.now → text ≡ text_after fed.now run) }
+    requires run { (replay : IsToReplay fed.now Z.flow)
+        × StandsAt fed.now.case.cut.plan (fed_start fed.now) (run_token replay.run) fed.now.trace.columns fed.now.trace.rows fed.now.trace.rows net.now }
+    ensures { IfOk result (λ text. (replay : IsToReplay fed.now Z.flow)
+        → StandsAt fed.now.case.cut.plan (fed_start fed.now) (run_token replay.run) fed.now.trace.columns fed.now.trace.rows fed.now.trace.rows net.now → text ≡ text_after fed.now replay) }
 {
     plans_can_save();
     let case = &fed.case;
@@ -105,12 +102,11 @@ fn text_upto<R: Threads + Sync, Z: Streams, G: Gate + Sync>(
 ) -> Result<Name, Ending>
     requires few { workers ≤ 64 }
     requires case { (models : Models) × (circuit : List ℕ) × (partition : List ℕ) × (capacity : ℕ) × IsCase (to_save models) circuit partition capacity fed.now.case }
-    requires run { (run : IsToReplay fed.now Z.flow) × (run.design ≡ fed.now.case.design) × (run.request ≡ fed.now.case.cut.request) }
-    ensures none { IfOk result (λ text. (run : IsToReplay fed.now Z.flow) → run.design ≡ fed.now.case.design → run.request ≡ fed.now.case.cut.request → FindsStop fed.now run cycles None) }
+    requires run { IsToReplay fed.now Z.flow }
+    ensures none { IfOk result (λ text. (replay : IsToReplay fed.now Z.flow) → FindsStop fed.now replay cycles None) }
     ensures within { IfOk result (λ text. at ≤ cycles) }
-    ensures text { IfOk result (λ text. (run : IsToReplay fed.now Z.flow) → run.design ≡ fed.now.case.design → run.request ≡ fed.now.case.cut.request → text ≡ text_after fed.now run) }
-    ensures refused { IfErr result (IfRefused (λ said. (run : IsToReplay fed.now Z.flow) → run.design ≡ fed.now.case.design
-        → run.request ≡ fed.now.case.cut.request → TellsEarly fed.now run cycles at said)) }
+    ensures text { IfOk result (λ text. (replay : IsToReplay fed.now Z.flow) → text ≡ text_after fed.now replay) }
+    ensures refused { IfErr result (IfRefused (λ said. (replay : IsToReplay fed.now Z.flow) → TellsEarly fed.now replay cycles at said)) }
 {
     let (net, stop) = run_upto::<R, Z, G>(rt, alloc, fed, cycles, workers, gate)?;
     if let Some(stop) = stop {

@@ -29,7 +29,7 @@ use Rattle.gg_trace.specs.Last.{halts, row_count}
 use Rattle.gg_trace.specs.Printing.{trace_text}
 use Rattle.golden_commands.specs.inside.Case.{AreFedToTrays}
 use Rattle.golden_commands.specs.Case.{IsFed}
-use Rattle.golden_commands.specs.Meant.{AreMeant}
+use Rattle.golden_commands.specs.Meaning.{AreMeant, IsMeaning}
 use Rattle.golden_commands.specs.Network.{IsNetworkText}
 use Rattle.golden_commands.specs.Partition.{Known}
 use Rattle.golden_commands.specs.Replay.{CanGoOn, GoesOnUntilAll, IsReplayText, IsSetting, Setting, TellsSteps, all_steps, naming_of, replay_text, replayed}
@@ -86,19 +86,25 @@ module _ (known : Known) (circuit partition trace : List ℕ) (capacity : ℕ) (
 
   -- the plan's network can be built
   abbrev pub to-replay : IsToReplay fed (fed_flow known.models fed)
-  to-replay = record { design = design; request = request; models = models; default = capacity; rows = rows; given = given; room = is.case.bounded.1; flow_is = refl }
+  to-replay =
+      record {
+        run = record { design = design; request = request; models = models; default = capacity; rows = rows; given = given; room = is.case.bounded.1; flow_is = refl };
+        of_design = refl;
+        of_request = refl;
+      }
 
   -- the three files mean what was read
+  pub fed-meaning : IsMeaning known circuit partition trace (meant_by fed)
+  fed-meaning = record { means = is.case.means; cuts = is.case.cuts; feeds = is.feeds.feeds }
+
   pub fed-are : AreMeant known circuit partition trace (meant_by fed)
   fed-are =
       record {
-        means = is.case.means;
+        is = fed-meaning;
         designed = is.case.designed;
         keeps = is.case.keeps;
         held = is.case.held;
         whole = is.case.whole;
-        cuts = is.case.cuts;
-        feeds = is.feeds.feeds;
       }
 
   pub own-run : IsRunBy fed.case.design fed.case.cut.request known.models fed.trace.columns fed.trace.rows (circuit_rows fed.case.design fed.case.cut.request known.models fed.trace.columns fed.trace.rows)
@@ -153,7 +159,7 @@ module _ (known : Known) (circuit partition trace : List ℕ) (capacity : ℕ) (
   setting layout = setting_of design request n columns rows layout
 
   own-setting : (layout : Layout) → AreSet design request models capacity n columns rows layout → IsSetting known circuit partition trace capacity (setting layout)
-  own-setting layout are = record { means = is.case.means; cuts = is.case.cuts; feeds = is.feeds.feeds; run = are.run; laid = are.laid }
+  own-setting layout are = record { is = fed-meaning; run = are.run; laid = are.laid }
 
   module _ (agree : DesignsAgree) (once : OneRun) where
     -- the text of the marking that the steps lead to is the only one
@@ -183,9 +189,9 @@ module _ (known : Known) (circuit partition trace : List ℕ) (capacity : ℕ) (
         same : all_steps (setting layout) ≡ all_steps b
         same =
             let layouts = layouts-same known agree circuit partition trace capacity (setting layout) b x y in
-            let cycles : n ≡ b.cycles = sym are.laid.end ∙ ap (λ (l : Layout). l.end) layouts ∙ y.laid.end in
+            let cycles : n ≡ b.meant.cycles = sym are.laid.end ∙ ap (λ (l : Layout). l.end) layouts ∙ y.laid.end in
             ap (λ k. k * (2 * length layout.links + length layout.turns + all_dues layout)) cycles
-            ∙ ap (λ (l : Layout). b.cycles * (2 * length l.links + length l.turns + all_dues l)) layouts
+            ∙ ap (λ (l : Layout). b.meant.cycles * (2 * length l.links + length l.turns + all_dues l)) layouts
 
         goes : length (text_lines steps) < all_steps (setting layout) → CanGoOn known circuit partition trace capacity steps
         goes lt =
@@ -205,15 +211,15 @@ module _ (known : Known) (circuit partition trace : List ℕ) (capacity : ℕ) (
           → IsReplayed known circuit partition trace capacity steps text
       text-so text goes =
           let events = steps_of (naming_of design request) steps in
-          let own = laid design request models capacity plan columns n rows given goes.machines goes.opened.built goes.opened.kept in
-          let are = are-set design request models capacity plan columns n rows given goes.machines goes.opened.built goes.opened.kept in
-          let leads = went design request models capacity plan columns n rows given goes.machines goes.opened.built goes.opened.kept events goes.net goes.steps in
+          let own = laid design request models capacity plan columns n rows given goes.opening goes.opened.opens goes.opened.kept in
+          let are = are-set design request models capacity plan columns n rows given goes.opening goes.opened.opens goes.opened.kept in
+          let leads = went design request models capacity plan columns n rows given goes.opening goes.opened.opens goes.opened.kept events goes.net goes.steps in
           let x = own-setting own.0 are in
           let same : text ≡ replay_text (setting own.0) (marking_of goes.net) =
           goes.is
           ∙ text-is design request models capacity plan columns n rows given own.0 goes.net
-          (frame-has design request models capacity plan columns n rows given goes.machines goes.opened.built goes.opened.kept events goes.net goes.steps)
-          (wires-count design request models capacity plan columns n rows given goes.machines goes.opened.built goes.opened.kept events goes.net goes.steps) in (
+          (frame-has design request models capacity plan columns n rows given goes.opening goes.opened.opens goes.opened.kept events goes.net goes.steps)
+          (wires-count design request models capacity plan columns n rows given goes.opening goes.opened.opens goes.opened.kept events goes.net goes.steps) in (
             (setting own.0, x, (marking_of goes.net, leads)),
             record {
               is = record { text_is = (setting own.0, x, (marking_of goes.net, leads, same)); goes_on = on-until-all own.0 are steps (marking_of goes.net) leads };
@@ -225,9 +231,9 @@ module _ (known : Known) (circuit partition trace : List ℕ) (capacity : ℕ) (
       pub stop-so : (said : Said) → TellsStop fed (fed_flow known.models fed) (naming_of design request) (steps_of (naming_of design request) steps) said → TellsSteps known circuit partition trace capacity steps said
       stop-so said stops =
           let events = steps_of (naming_of design request) steps in
-          let own = laid design request models capacity plan columns n rows given stops.machines stops.opened.built stops.opened.kept in
-          let are = are-set design request models capacity plan columns n rows given stops.machines stops.opened.built stops.opened.kept in
-          let leads = stopped-so design request models capacity plan columns n rows given stops.machines stops.opened.built stops.opened.kept events stops.net stops.stopped stops.stops in
+          let own = laid design request models capacity plan columns n rows given stops.opening stops.opened.opens stops.opened.kept in
+          let are = are-set design request models capacity plan columns n rows given stops.opening stops.opened.opens stops.opened.kept in
+          let leads = stopped-so design request models capacity plan columns n rows given stops.opening stops.opened.opens stops.opened.kept events stops.net stops.stopped stops.stops in
           (setting own.0, own-setting own.0 are, (stops.stopped, leads, stops.is))
 
 -- ---- the text of the run
@@ -247,16 +253,11 @@ pub network-text-of : {known : Known} {circuit partition trace : List ℕ} {capa
     → IsNetworkText known circuit partition trace capacity (run_text fed.case.design fed.case.cut.request ran fed.trace.rows)
 network-text-of {known = known} {circuit = circuit} {partition = partition} {trace = trace} {capacity = capacity} {fed = fed} is ran kept =
     record {
-      design = fed.case.design;
-      means = is.case.means;
+      meant = meant_by fed;
+      is_meant = fed-meaning known circuit partition trace capacity fed is;
       designed = is.case.designed;
-      request = fed.case.cut.request;
-      cuts = is.case.cuts;
       plan = fed.case.cut.plan;
       planned = is.case.planned;
-      cycles = fed.trace.rows;
-      columns = fed.trace.columns;
-      feeds = is.feeds.feeds;
       kept = out_columns (plan_circuit fed.case.design fed.case.cut.request known.models) ran;
       each = fed-each known circuit partition trace capacity fed is ran;
       told = run_rows fed.case.design fed.case.cut.request ran fed.trace.rows;

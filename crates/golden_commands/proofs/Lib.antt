@@ -7,6 +7,7 @@ pub mod CutPathLemmas
 pub mod FedLemmas
 pub mod FewLemmas
 pub mod GoOnLemmas
+pub mod HandInLemmas
 pub mod HandedLemmas
 pub mod JoinedLemmas
 pub mod LineLemmas

@@ -1,12 +1,15 @@
 -- How the steps of a plan's network end.
-use Rattle.std.proofs.Common.{◌≡◌, ℕ, ◌+◌, ◌<◌, ◌≤◌, List, [], ◌++◌, length, take, get_or, refl, sym, ap, ◌∙◌, subst, arith}
+use Rattle.std.proofs.Common.{◌≡◌, ℕ, ◌+◌, ◌<◌, ◌≤◌, List, [], ◌++◌, length, take, get_or, refl, sym, ap, ap₂, ◌∙◌, subst, arith}
 use Rattle.std.specs.Prelude.{IfOk, MatchResult, Option, Result, Ok, Err, codes, decimal, flat_map}
 use Rattle.std.specs.List.{range_with_len}
 use Rattle.std.proofs.lemmas.List.{get_or-map, take_all}
 use Rattle.std.proofs.lemmas.List.FromFn.{get_or-range_with_len, length-range_with_len}
+use Rattle.gg_flat.specs.Run.{Start}
 use Rattle.gg_flat.specs.Streams.{Flow}
-use Rattle.gg_build.specs.inside.Build.{IsToRun}
-use Rattle.gg_build.specs.Build.{IsOpeningOf}
+use Rattle.gg_order.specs.Design.{Ordered}
+use Rattle.gg_partfile.specs.declared.request.Request.{Request}
+use Rattle.gg_build.specs.inside.Build.{FromZeros, IsToRun}
+use Rattle.gg_build.specs.Build.{IsOpeningFrom, IsToRunFrom, run_token}
 use Rattle.gg_cut_plan.specs.declared.plan.Channel.{Channel}
 use Rattle.gg_cut_plan.specs.declared.plan.Plan.{Plan}
 use Rattle.gg_node.specs.Machine.{machine_at}
@@ -20,14 +23,13 @@ use Rattle.gg_net.specs.Network.{Frame, Network, puts, entered, takes}
 use Rattle.gg_net.specs.markings.Goes.{Stopped}
 use Rattle.gg_net.specs.markings.Steps.{Steps, StopsAt}
 use Rattle.gg_net.proofs.MarkingsLemmas.StepsLemmas.{steps-frame}
-use Rattle.gg_cut_reference.specs.Follows.{plan_start}
+use Rattle.gg_cut_reference.specs.Follows.{plan_start, plan_token}
 use Rattle.gg_replay.specs.inside.Log.{AreFronts, opening_log, tokens_at}
 use Rattle.gg_replay.specs.ReplayText.{channel_line}
 use Rattle.gg_replay.proofs.OpeningLemmas.{first-fronts}
-use Rattle.gg_build.specs.plan.Built.{no_token, wires_of_plan}
+use Rattle.gg_build.specs.plan.Built.{wires_of_plan}
 use Rattle.gg_build.proofs.PlanLemmas.LinkLemmas.{length-from}
-use Rattle.gg_build.proofs.PlanLemmas.OpeningLemmas.{built-opening}
-use Rattle.gg_build.proofs.PlanLemmas.ZeroLemmas.{built-with-zeros}
+use Rattle.gg_rows.proofs.OpeningLemmas.{begins-so}
 use Rattle.gg_replay.specs.steps_file.Naming.{Naming}
 use Rattle.gg_io.specs.declared.endings.Ending.{Ending}
 use Rattle.gg_io.specs.declared.endings.Ending.TheVariants.{NoMemory}
@@ -37,26 +39,27 @@ use Rattle.gg_io.specs.Ends.{Puts}
 use Rattle.gg_io.specs.inside.Endings.{IfRefused, PrintsOrStops, Stops}
 use Rattle.golden_commands.specs.Replay.{stopped_by}
 use Rattle.golden_commands.specs.Replayed.{IsNetText, Opened, TellsStop, name_in, net_line, net_text, width_in}
+use Rattle.golden_commands.specs.inside.Replayed.{IsToReplay, fed_start}
 use Rattle.golden_commands.specs.declared.case.Fed.{Fed}
 use Rattle.gg_io.proofs.EndingLemmas.{IfRefused-map}
 
-module _ (plan : Plan) (columns : List (List ℕ)) (n : ℕ) (flow : Flow) (net : Network) (opens : IsOpeningOf plan columns n net) where
+module _ (plan : Plan) (start : Start) (columns : List (List ℕ)) (n : ℕ) (flow : Flow) (run : IsToRunFrom plan start columns n flow) (net : Network) (opens : IsOpeningFrom plan start (run_token run) columns n net) where
   -- before the first cycle a log of the tokens with which the channels open is right
-  pub opening-right : (log : List (List ℕ)) (wires : List Wire) → IsToRun plan columns n flow → Kept flow net → wires ≡ net.wires → log ≡ opening_log wires → AreFronts flow net log
-  opening-right log wires run kept same is =
+  pub opening-right : start.cycle ≡ 0 → (log : List (List ℕ)) (wires : List Wire) → Kept flow net → wires ≡ net.wires → log ≡ opening_log wires → AreFronts flow net log
+  opening-right zero log wires kept same is =
       let machines = opens.machines in
-      let opening = opening_net machines (wires_of_plan no_token plan) n in
-      let fronts : AreFronts flow opening (opening_log (wires_of_plan no_token plan)) =
-      first-fronts flow machines (wires_of_plan no_token plan) n (ap (λ (f : Flow). f.begin) run.flow_is) (subst (λ (x : Network). Kept flow x) opens.is kept)
-      (λ m lt. subst (λ (f : Flow). IsOpening f m (machine_at machines m)) (sym run.flow_is) (built-opening run.design run.request run.models run.default plan columns n (plan_start run.design run.request) run.rows machines run.given
-      (built-with-zeros run.design run.request run.models run.default plan columns machines run.given.planned opens.built) m lt)) in
-      let given : log ≡ opening_log (wires_of_plan no_token plan) = is ∙ ap opening_log (same ∙ ap (λ (x : Network). x.wires) opens.is) in
+      let own = wires_of_plan (run_token run) plan in
+      let opening = opening_net machines own n in
+      let fronts : AreFronts flow opening (opening_log own) =
+      first-fronts flow machines own n (ap (λ (f : Flow). f.begin) run.flow_is ∙ zero) (subst (λ (x : Network). Kept flow x) opens.is kept)
+      (λ m lt. subst (λ (f : Flow). IsOpening f m (machine_at machines m)) (sym run.flow_is) (begins-so plan start columns n flow run net opens m lt)) in
+      let given : log ≡ opening_log own = is ∙ ap opening_log (same ∙ ap (λ (x : Network). x.wires) opens.is) in
       subst (λ (x : Network). AreFronts flow x log) (sym opens.is) (subst (λ l. AreFronts flow opening l) (sym given) fronts)
 
   -- steps don't change the number of channels
   pub wires-stay : (events : List (Option Event)) (new : Network) → Steps net events new → length new.wires ≡ length plan.channels
   wires-stay events new steps =
-      ap (λ (f : Frame). length f.wires) (steps-frame net events new steps) ∙ ap (λ (x : Network). length x.wires) opens.is ∙ length-from no_token plan 0 plan.channels
+      ap (λ (f : Frame). length f.wires) (steps-frame net events new steps) ∙ ap (λ (x : Network). length x.wires) opens.is ∙ length-from (run_token run) plan 0 plan.channels
 
 -- a refused step is reported by its number and cause, however these are written
 pub told-so : (naming : Naming) (events : List (Option Event)) (ending : Ending) (step step' : ℕ) (cause cause' : StepRefusal) → step ≡ step' → cause ≡ cause'
@@ -67,18 +70,28 @@ told-so naming events ending step step' cause cause' e f =
 
 -- ---- the network of a plan on a trace
 
-module _ (fed : Fed) (flow : Flow) (net : Network) (opens : IsOpeningOf fed.case.cut.plan fed.trace.columns fed.trace.rows net) (kept : Kept flow net) (events : List (Option Event)) (new : Network) where
-  opened-so : Opened fed flow opens.machines
-  opened-so = record { built = opens.built; kept = subst (λ (x : Network). Kept flow x) opens.is kept }
+-- it is to be run from zeros
+pub replay-zeros : {fed : Fed} {flow : Flow} (replay : IsToReplay fed flow) → FromZeros replay.run
+replay-zeros replay = ap₂ plan_start (sym replay.of_design) (sym replay.of_request)
+
+pub replay-run : {fed : Fed} {flow : Flow} → IsToReplay fed flow → IsToRun fed.case.cut.plan fed.trace.columns fed.trace.rows flow
+replay-run {fed = fed} replay = record { start = fed_start fed; run = replay.run; zeros = replay-zeros replay }
+
+module _ (fed : Fed) (flow : Flow) (replay : IsToReplay fed flow) (net : Network) (opens : IsOpeningFrom fed.case.cut.plan (fed_start fed) (run_token replay.run) fed.trace.columns fed.trace.rows net) (kept : Kept flow net) (events : List (Option Event)) (new : Network) where
+  abbrev opening_by : Ordered → Request → Type 0
+  opening_by design request = IsOpeningFrom fed.case.cut.plan (fed_start fed) (plan_token design request (fed_start fed).state) fed.trace.columns fed.trace.rows net
+
+  opened-so : Opened fed flow net
+  opened-so =
+      record { opens = subst (opening_by fed.case.design) replay.of_request (subst (λ (design : Ordered). opening_by design replay.run.request) replay.of_design opens); kept = kept }
 
   -- the text of the network is that of the steps that led to it
   pub net-goes : Steps net events new → IsNetText fed flow events (net_text fed.case.cut.plan flow new)
-  net-goes steps = record { machines = opens.machines; opened = opened-so; net = new; steps = subst (λ (x : Network). Steps x events new) opens.is steps; is = refl }
+  net-goes steps = record { opening = net; opened = opened-so; net = new; steps = steps; is = refl }
 
   -- this is reported for the steps that stopped there
   net-stops : (naming : Naming) (stopped : Stopped) (said : Said) → StopsAt 1 net events new stopped → said ≡ stopped_by naming events stopped → TellsStop fed flow naming events said
-  net-stops naming stopped said stops is =
-      record { machines = opens.machines; opened = opened-so; net = new; stopped = stopped; stops = subst (λ (x : Network). StopsAt 1 x events new stopped) opens.is stops; is = is }
+  net-stops naming stopped said stops is = record { opening = net; opened = opened-so; net = new; stopped = stopped; stops = stops; is = is }
 
   -- so has it ended with this report, and nothing was written
   pub net-stopped : {T : Type 0} {out : Puts} (naming : Naming) (stopped : Stopped) (ending : Ending) → out.after ≡ out.before → StopsAt 1 net events new stopped

@@ -26,10 +26,8 @@ use Rattle.gg_cut_plan.specs.declared.plan.Plan.{Plan}
 use Rattle.gg_cut_plan.specs.declared.wires.Wire.{Wire}
 use Rattle.gg_cut_reference.specs.text.CheckText.{channel_name}
 use Rattle.gg_cut_reference.proofs.TextLemmas.SameCutLemmas.{lines-same}
-use Rattle.gg_node.specs.Machine.{Machine}
 use Rattle.gg_net.specs.declared.event.Event.{Event}
 use Rattle.gg_net.specs.Kept.{Kept, list_at}
-use Rattle.gg_net.specs.Net.{opening_net}
 use Rattle.gg_net.specs.Network.{Frame, Network, frame_of}
 use Rattle.gg_net.specs.Network as network
 use Rattle.gg_net.specs.inside.Fits.{HasLayout, marking_of}
@@ -43,14 +41,15 @@ use Rattle.gg_measure.proofs.NetLemmas.{can-run}
 use Rattle.gg_net.specs.inside.Counts.{CanRun}
 use Rattle.gg_cut_reference.specs.Follows.{plan_start, plan_token}
 use Rattle.gg_cut_reference.proofs.StartLemmas.{start-token}
-use Rattle.gg_build.specs.plan.Built.{AreBuilt, IsGiven, flow_of, no_token, opening_of, wires_of_plan}
+use Rattle.gg_build.specs.Build.{IsOpeningOf}
+use Rattle.gg_build.specs.plan.Built.{IsGiven, body_start, flow_of, wires_of_plan}
 use Rattle.gg_build.proofs.PlanLemmas.LinkLemmas.{length-from}
 use Rattle.gg_build.proofs.PlanLemmas.OpeningLemmas.{built-opening}
 use Rattle.gg_build.proofs.PlanLemmas.SolvedLemmas.{stream-at}
-use Rattle.gg_build.proofs.PlanLemmas.ZeroLemmas.{built-with-zeros}
 use Rattle.gg_build.specs.plan.CutLayout.{IsLayoutOf}
 use Rattle.gg_build.proofs.PlanLemmas.LayoutLemmas.{plan-layout}
 use Rattle.gg_replay.specs.ReplayText.{channel_line}
+use Rattle.golden_commands.specs.Meaning.{meaning_of}
 use Rattle.golden_commands.specs.Replay.{Setting, channel_told, naming_of, port_names, replay_text}
 use Rattle.golden_commands.specs.RunText.{IsRunBy}
 use Rattle.golden_commands.specs.Replayed.{name_in, net_line, net_text, plan_naming, width_in}
@@ -58,7 +57,7 @@ use Rattle.golden_commands.proofs.BeginLemmas.{run-of}
 
 -- the setting that has these
 abbrev pub setting_of : Ordered → Request → ℕ → (columns rows : List (List ℕ)) → Layout → Setting
-setting_of design request n columns rows layout = record { design = design; request = request; cycles = n; columns = columns; rows = rows; layout = layout }
+setting_of design request n columns rows layout = record { meant = meaning_of design request n columns; rows = rows; layout = layout }
 
 -- The run, and the layout of the request's cut, whose network can go on.
 pub record AreSet (design : Ordered) (request : Request) (models : Models) (default n : ℕ) (columns rows : List (List ℕ)) (layout : Layout) : Type 0 where
@@ -157,16 +156,20 @@ module _ (design : Ordered) (request : Request) (models : Models) (default : ℕ
 
   -- ---- the steps
 
-  module _ (machines : List Machine) (built : AreBuilt plan (opening_of plan.ratios) columns machines) (kept : Kept flow (opening_net machines (wires_of_plan no_token plan) n)) where
-    abbrev opening : Network
-    opening = opening_net machines (wires_of_plan no_token plan) n
+  module _ (opening : Network) (opens : IsOpeningOf design request plan columns n opening) (kept : Kept flow opening) where
+    abbrev token : ℕ → ℕ
+    token = plan_token design request start.state
 
     pub laid : (layout : Layout) × (IsLayoutOf design request default n layout × HasLayout (frame_of opening) layout)
-    laid = plan-layout design request models default plan columns n start rows no_token (opening_of plan.ratios) machines given built
+    laid =
+        subst (λ (net : Network). (layout : Layout) × (IsLayoutOf design request default n layout × HasLayout (frame_of net) layout)) (sym opens.is)
+        (plan-layout design request models default plan columns n start rows token (body_start start) opens.machines given opens.built)
 
-    pub opens : marking_of opening ≡ opening_marking laid.0 0
-    opens = opens-so flow machines (wires_of_plan no_token plan) n
-        (built-opening design request models default plan columns n start rows machines given (built-with-zeros design request models default plan columns machines given.planned built)) laid.0 laid.1.1
+    pub begins : marking_of opening ≡ opening_marking laid.0 0
+    begins =
+        ap marking_of opens.is
+        ∙ opens-so flow opens.machines (wires_of_plan token plan) n (built-opening design request models default plan columns n start rows opens.machines given opens.built) laid.0
+        (subst (λ (net : Network). HasLayout (frame_of net) laid.0) opens.is laid.1.1)
 
     pub are-set : AreSet design request models default n columns rows laid.0
     are-set = record { run = run-of design request models columns n rows given.run; laid = laid.1.0; able = can-run flow opening kept laid.0 laid.1.1 }
@@ -175,12 +178,12 @@ module _ (design : Ordered) (request : Request) (models : Models) (default : ℕ
     frame-has events net steps = subst (λ (f : Frame). HasLayout f laid.0) (sym (steps-frame opening events net steps)) laid.1.1
 
     pub wires-count : (events : List (Option Event)) (net : Network) → Steps opening events net → length net.wires ≡ length plan.channels
-    wires-count events net steps = ap (λ (f : Frame). length f.wires) (steps-frame opening events net steps) ∙ length-from no_token plan 0 plan.channels
+    wires-count events net steps = ap (λ (f : Frame). length f.wires) (steps-frame opening events net steps) ∙ ap (λ (net : Network). length net.wires) opens.is ∙ length-from token plan 0 plan.channels
 
     pub went : (events : List (Option Event)) (net : Network) → Steps opening events net → replayed_from laid.0 1 (opening_marking laid.0 0) events ≡ Ok (marking_of net)
     went events net steps =
-        ap (λ m. replayed_from laid.0 1 m events) (sym opens) ∙ all-done flow laid.0 1 opening events net kept laid.1.1 steps
+        ap (λ m. replayed_from laid.0 1 m events) (sym begins) ∙ all-done flow laid.0 1 opening events net kept laid.1.1 steps
 
     pub stopped-so : (events : List (Option Event)) (net : Network) (stopped : Stopped) → StopsAt 1 opening events net stopped → replayed_from laid.0 1 (opening_marking laid.0 0) events ≡ Err stopped
     stopped-so events net stopped stops =
-        ap (λ m. replayed_from laid.0 1 m events) (sym opens) ∙ stops-at flow laid.0 1 opening events net stopped kept laid.1.1 stops
+        ap (λ m. replayed_from laid.0 1 m events) (sym begins) ∙ stops-at flow laid.0 1 opening events net stopped kept laid.1.1 stops

@@ -6,7 +6,7 @@ use Rattle.gg_flat.specs.Circuit.{FlatCircuit}
 use Rattle.gg_flat_tree.specs.Tree.{InstanceTree}
 use Rattle.gg_partfile.specs.declared.request.Request.{Request}
 use Rattle.golden_commands.specs.Lines.{few_rows}
-use Rattle.golden_commands.specs.Meant.{Meant, meaning}
+use Rattle.golden_commands.specs.Meaning.{Meaning, meaning_of}
 use Rattle.golden_commands.specs.Resumed.{rest_rows}
 use Rattle.golden_commands.specs.Saved.{save_limit}
 
@@ -30,8 +30,8 @@ abbrev request : Request
 request = record { units = []; share = []; memories = []; capacity = []; direct = false; pipe = []; clocks = []; bridges = [] }
 
 -- of four cycles
-abbrev meant : Meant
-meant = meaning (record { circuit = circuit; tree = tree; order = [] }) request 4 []
+abbrev meant : Meaning
+meant = meaning_of (record { circuit = circuit; tree = tree; order = [] }) request 4 []
 
 -- the condition in four cycles
 abbrev conditions : (a b c d : ℕ) → List (List ℕ)

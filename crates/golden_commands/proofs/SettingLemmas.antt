@@ -31,30 +31,30 @@ naming-alike one other s request = ap (λ (design : Ordered). naming_of design r
 -- ---- two settings
 
 module _ (known : Known) (agree : DesignsAgree) (circuit partition trace : List ℕ) (capacity : ℕ) (a b : Setting) (x : IsSetting known circuit partition trace capacity a) (y : IsSetting known circuit partition trace capacity b) where
-  pub designs-alike : AreAlike a.design b.design
-  designs-alike = agree circuit a.design b.design x.means y.means
+  pub designs-alike : AreAlike a.meant.design b.meant.design
+  designs-alike = agree circuit a.meant.design b.meant.design x.is.means y.is.means
 
-  pub requests-same : a.request ≡ b.request
-  requests-same = request-once partition a.request b.request x.cuts.asks y.cuts.asks
+  pub requests-same : a.meant.request ≡ b.meant.request
+  requests-same = request-once partition a.meant.request b.meant.request x.is.cuts.asks y.is.cuts.asks
 
-  pub circuits-same : plan_circuit a.design a.request known.models ≡ plan_circuit b.design b.request known.models
-  circuits-same = circuit-same known.models a.design b.design designs-alike a.request b.request requests-same
+  pub circuits-same : plan_circuit a.meant.design a.meant.request known.models ≡ plan_circuit b.meant.design b.meant.request known.models
+  circuits-same = circuit-same known.models a.meant.design b.meant.design designs-alike a.meant.request b.meant.request requests-same
 
-  pub cycles-same : a.cycles ≡ b.cycles
-  cycles-same = sym x.feeds.count ∙ y.feeds.count
+  pub cycles-same : a.meant.cycles ≡ b.meant.cycles
+  cycles-same = sym x.is.feeds.count ∙ y.is.feeds.count
 
   pub layouts-same : a.layout ≡ b.layout
   layouts-same =
-      one-layout a.design b.design b.request capacity b.cycles a.layout b.layout designs-alike
-      (subst (λ (n : ℕ). IsLayoutOf a.design b.request capacity n a.layout) cycles-same (subst (λ (r : Request). IsLayoutOf a.design r capacity a.cycles a.layout) requests-same x.laid)) y.laid
+      one-layout a.meant.design b.meant.design b.meant.request capacity b.meant.cycles a.layout b.layout designs-alike
+      (subst (λ (n : ℕ). IsLayoutOf a.meant.design b.meant.request capacity n a.layout) cycles-same (subst (λ (r : Request). IsLayoutOf a.meant.design r capacity a.meant.cycles a.layout) requests-same x.laid)) y.laid
 
-  naming-same : naming_of a.design a.request ≡ naming_of b.design b.request
-  naming-same = ap (naming_of a.design) requests-same ∙ naming-alike a.design b.design designs-alike b.request
+  naming-same : naming_of a.meant.design a.meant.request ≡ naming_of b.meant.design b.meant.request
+  naming-same = ap (naming_of a.meant.design) requests-same ∙ naming-alike a.meant.design b.meant.design designs-alike b.meant.request
 
   -- the steps lead to the same in both settings
   pub leads-same : (steps : List ℕ) → replayed a steps ≡ replayed b steps
   leads-same steps =
-      ap (λ (l : Layout). replayed_from l 1 (opening_marking l 0) (steps_of (naming_of a.design a.request) steps)) layouts-same
+      ap (λ (l : Layout). replayed_from l 1 (opening_marking l 0) (steps_of (naming_of a.meant.design a.meant.request) steps)) layouts-same
       ∙ ap (λ (n : Naming). replayed_from b.layout 1 (opening_marking b.layout 0) (steps_of n steps)) naming-same
 
   -- the same is reported in both settings for a step that is refused
@@ -96,19 +96,19 @@ module _ (known : Known) (agree : DesignsAgree) (circuit partition trace : List 
 -- ---- the text
 
 -- settings with alike designs, the same rows and the same marking have the same text
-pub texts-same : (a b : Setting) (one other : Marking) → AreAlike a.design b.design → a.request ≡ b.request → a.layout ≡ b.layout → a.rows ≡ b.rows → one ≡ other
+pub texts-same : (a b : Setting) (one other : Marking) → AreAlike a.meant.design b.meant.design → a.meant.request ≡ b.meant.request → a.layout ≡ b.layout → a.rows ≡ b.rows → one ≡ other
     → replay_text a one ≡ replay_text b other
 texts-same a b one other s requests layouts rows same =
-    ap (λ (d : Ordered). replay_text (record a { design = d }) one) (alike-is a.design b.design s)
-    ∙ ap (λ (q : Request). replay_text (record a { design = b.design; request = q }) one) requests
-    ∙ ap (λ (l : Layout). replay_text (record a { design = b.design; request = b.request; layout = l }) one) layouts
-    ∙ ap (λ (r : List (List ℕ)). replay_text (record a { design = b.design; request = b.request; layout = b.layout; rows = r }) one) rows
+    ap (λ (d : Ordered). replay_text (record a { meant = record a.meant { design = d } }) one) (alike-is a.meant.design b.meant.design s)
+    ∙ ap (λ (q : Request). replay_text (record a { meant = record a.meant { design = b.meant.design; request = q } }) one) requests
+    ∙ ap (λ (l : Layout). replay_text (record a { meant = record a.meant { design = b.meant.design; request = b.meant.request }; layout = l }) one) layouts
+    ∙ ap (λ (r : List (List ℕ)). replay_text (record a { meant = record a.meant { design = b.meant.design; request = b.meant.request }; layout = b.layout; rows = r }) one) rows
     ∙ ap (λ (m : Marking). replay_text b m) same
 
 -- each setting of the same circuit and trace has the rows of this one
-pub rows-same : (known : Known) → DesignsAgree → OneRun → (circuit partition trace : List ℕ) (capacity : ℕ) (own : Setting) (order : List ℕ) → IsOrder (plan_circuit own.design own.request known.models) order
-    → IsSetting known circuit partition trace capacity own → FeedsOnly own.design.circuit own.request trace own.cycles own.columns
+pub rows-same : (known : Known) → DesignsAgree → OneRun → (circuit partition trace : List ℕ) (capacity : ℕ) (own : Setting) (order : List ℕ) → IsOrder (plan_circuit own.meant.design own.meant.request known.models) order
+    → IsSetting known circuit partition trace capacity own → FeedsOnly own.meant.design.circuit own.meant.request trace own.meant.cycles own.meant.columns
     → (other : Setting) → IsSetting known circuit partition trace capacity other → other.rows ≡ own.rows
 rows-same known agree once circuit partition trace capacity own order ordered x feeds other y =
-    (same-run once known.models trace own.design own.request order ordered own.cycles own.columns own.rows x.run feeds other.design other.request
-    (designs-alike known agree circuit partition trace capacity other own y x) (requests-same known agree circuit partition trace capacity other own y x) other.cycles other.columns other.rows y.feeds y.run).1
+    (same-run once known.models trace own.meant.design own.meant.request order ordered own.meant.cycles own.meant.columns own.rows x.run feeds other.meant.design other.meant.request
+    (designs-alike known agree circuit partition trace capacity other own y x) (requests-same known agree circuit partition trace capacity other own y x) other.meant.cycles other.meant.columns other.rows y.is.feeds y.run).1

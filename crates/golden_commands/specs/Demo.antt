@@ -25,7 +25,7 @@ IsDemoSetting seed size setting = IsSetting (to_run []) (demo_circuit size) (dem
 abbrev pub setting_summary : (seed size : ℕ) → Setting → List ℕ
 setting_summary seed size setting =
     demo_summary seed size (length setting.layout.turns) (length setting.layout.links) (all_steps setting)
-    (output_column (plan_circuit setting.design setting.request []) setting.rows 0) (output_column (plan_circuit setting.design setting.request []) setting.rows 1)
+    (output_column (plan_circuit setting.meant.design setting.meant.request []) setting.rows 0) (output_column (plan_circuit setting.meant.design setting.meant.request []) setting.rows 1)
 
 -- the summary of the demo of this seed and size
 abbrev pub IsDemoText : (seed size : ℕ) (text : List ℕ) → Type 0

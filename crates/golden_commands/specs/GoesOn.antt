@@ -10,7 +10,7 @@ use Rattle.gg_order.specs.Design.{IsDesign, Ordered}
 use Rattle.gg_part.specs.KeepsToTree.{KeepsToTree}
 use Rattle.gg_partfile.specs.Partition.{IsPartition}
 use Rattle.gg_partfile.specs.declared.request.Request.{Request}
-use Rattle.golden_commands.specs.Meant.{meaning}
+use Rattle.golden_commands.specs.Meaning.{meaning_of}
 use Rattle.golden_commands.specs.Partition.{IsPartitionFor, to_run, to_save}
 use Rattle.golden_commands.specs.Resumed.{CanBeResumed, HaveSamePipes, HaveSameRatios, IsRestOf, IsResumedText, rest_text, start_at}
 use Rattle.golden_commands.specs.Run.{IsTextOf}
@@ -29,11 +29,11 @@ RunsGoOn =
     -- Both ask for the same pipes, and give each clock the same ratio.
     → HaveSamePipes one other → HaveSameRatios one other
     -- `rows` is the whole run of n cycles, which can be saved before cycle `at`.
-    → IsRunBy design other models columns n rows → at ≤ save_limit (meaning design other n columns) rows
+    → IsRunBy design other models columns n rows → at ≤ save_limit (meaning_of design other n columns) rows
     -- `rest` is a run on the same columns, from the state before that cycle on.
-    → AreRows (plan_reference design one) (start_at (meaning design one n columns) at (state_before (meaning design other n columns) rows at)) columns n rest
+    → AreRows (plan_reference design one) (start_at (meaning_of design one n columns) at (state_before (meaning_of design other n columns) rows at)) columns n rest
     -- Its text is the rest of the text of the whole run.
-    → IsRestOf at (run_text design other rows n) (rest_text (meaning design one n columns) at rest)
+    → IsRestOf at (run_text design other rows n) (rest_text (meaning_of design one n columns) at rest)
 
 -- The text that `save` writes is accepted as a snapshot, under each partition that asks for the same pipes.
 abbrev pub SavedIsAccepted : Models → Type 0

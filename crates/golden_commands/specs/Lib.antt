@@ -7,7 +7,7 @@ pub mod Demo
 pub mod GoesOn
 pub mod Handed
 pub mod Lines
-pub mod Meant
+pub mod Meaning
 pub mod Network
 pub mod Outcome
 pub mod Partition

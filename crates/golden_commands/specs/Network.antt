@@ -3,21 +3,19 @@
 -- ICCAD 2019 (sinks at the outputs of a target). The text is this program's own.
 use Rattle.std.specs.Prelude.{◌≡◌, ℕ, List, length, take, drop}
 use Rattle.std.specs.Io.KnownBytes.{append_known}
-use Rattle.gg_front.specs.Meaning.{MeansDesign}
-use Rattle.gg_order.specs.Design.{IsDesign, Ordered}
-use Rattle.gg_partfile.specs.declared.request.Request.{Request}
+use Rattle.gg_order.specs.Design.{IsDesign}
 use Rattle.gg_cut_reference.specs.whole.Whole.{plan_circuit}
 use Rattle.gg_cut_plan.specs.Plan.{IsPlan}
-use Rattle.gg_cut_plan.specs.Seated.{first_kept_tray, plan_bridges}
 use Rattle.gg_cut_plan.specs.declared.plan.Plan.{Plan}
 use Rattle.gg_rows.specs.Printed.{AreKept, plan_stops}
 use Rattle.gg_trace.specs.Last.{halts, row_count}
 use Rattle.gg_trace.specs.Printing.{trace_text}
 use Rattle.gg_io.specs.Ends.{Loads, Puts}
 use Rattle.gg_io.specs.Order.{CanBe, IsOnly}
-use Rattle.golden_commands.specs.Partition.{Cuts, Known, partition_file_for}
+use Rattle.golden_commands.specs.Meaning.{IsMeaning, Meaning}
+use Rattle.golden_commands.specs.Partition.{Known, partition_file_for}
 use Rattle.golden_commands.specs.Run.{IsTextOf, circuit_file, trace_file_for}
-use Rattle.golden_commands.specs.RunText.{Feeds, shown_ports}
+use Rattle.golden_commands.specs.RunText.{shown_ports}
 
 -- The text of the network of a cut. The bytes of a circuit, a partition and a trace mean a design, a request and columns for some
 -- cycles, and the network is that of the request's plan, with this capacity of the channels that the request doesn't name. The text
@@ -27,22 +25,17 @@ use Rattle.golden_commands.specs.RunText.{Feeds, shown_ports}
 -- an edge, by the request's ratios. No other values come to the trays in
 -- these cycles, whatever steps are done. The circuit's run isn't spoken of.
 pub record IsNetworkText (known : Known) (circuit partition trace : List ℕ) (capacity : ℕ) (text : List ℕ) : Type 0 where
-  pub design : Ordered
-  pub means : MeansDesign circuit design
-  pub designed : IsDesign design
-  pub request : Request
-  pub cuts : Cuts known design partition request
+  pub meant : Meaning
+  pub is_meant : IsMeaning known circuit partition trace meant
+  pub designed : IsDesign meant.design
   pub plan : Plan
-  pub planned : IsPlan design request known.models capacity plan
-  pub cycles : ℕ
-  pub columns : List (List ℕ)
-  pub feeds : Feeds design.circuit request trace cycles columns
+  pub planned : IsPlan meant.design meant.request known.models capacity plan
   pub kept : List (List ℕ)
-  pub each : length kept ≡ length (plan_circuit design request known.models).outs
+  pub each : length kept ≡ length (plan_circuit meant.design meant.request known.models).outs
   pub told : ℕ
-  pub ends : told ≡ row_count (halts (plan_stops design request) (drop (length (shown_ports design request)) kept)) cycles
-  pub trays : AreKept plan columns cycles (first_kept_tray (plan_bridges design.circuit design.tree request)) told kept
-  pub is : text ≡ trace_text (shown_ports design request) (take (length (shown_ports design request)) kept) told
+  pub ends : told ≡ row_count (halts (plan_stops meant.design meant.request) (drop (length (shown_ports meant.design meant.request)) kept)) meant.cycles
+  pub trays : AreKept meant.design meant.request plan meant.columns meant.cycles told kept
+  pub is : text ≡ trace_text (shown_ports meant.design meant.request) (take (length (shown_ports meant.design meant.request)) kept) told
 
 -- The files of a circuit, a partition and a trace can have some bytes whose run has a text that was written. It is also the text
 -- of the network of their cut, and the only one.

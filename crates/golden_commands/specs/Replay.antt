@@ -7,7 +7,6 @@ use Rattle.gg_flat.specs.Circuit.{signal_shapes}
 use Rattle.gg_flat.specs.Line.{shape_at, value_at}
 use Rattle.gg_flat.specs.Run.{column}
 use Rattle.gg_flat_tree.specs.Tree.{InstanceTree, memory_at, path_at}
-use Rattle.gg_front.specs.Meaning.{MeansDesign}
 use Rattle.gg_order.specs.Design.{Ordered}
 use Rattle.gg_partfile.specs.declared.request.Request.{Request}
 use Rattle.gg_cut_plan.specs.Direct.{is_piped}
@@ -34,29 +33,24 @@ use Rattle.gg_io.specs.Said.{Said}
 use Rattle.gg_bits.specs.Limits.{steps_limit}
 use Rattle.golden_commands.specs.Lines.{step_fault}
 use Rattle.gg_io.specs.Order.{File}
-use Rattle.golden_commands.specs.Partition.{Cuts, Known}
-use Rattle.golden_commands.specs.RunText.{Feeds, IsRunBy}
+use Rattle.golden_commands.specs.Meaning.{IsMeaning, Meaning}
+use Rattle.golden_commands.specs.Partition.{Known}
+use Rattle.golden_commands.specs.RunText.{IsRunBy}
 
 -- ---- what a circuit, a partition and a trace mean
 
--- A design, a request, the columns of the top's inputs that no bridge drives for some cycles, the run on them of the reference circuit
--- with the models of the bridges, and the layout of the request's cut.
+-- What the files mean, the run on the columns of the reference circuit with the models of the bridges, and the layout of the request's cut.
 pub record Setting : Type 0 where
-  pub design : Ordered
-  pub request : Request
-  pub cycles : ℕ
-  pub columns : List (List ℕ)
+  pub meant : Meaning
   pub rows : List (List ℕ)
   pub layout : Layout
 
 -- The bytes of a circuit, a partition and a trace mean this. `capacity` is that of the channels that the request
 -- doesn't name.
 pub record IsSetting (known : Known) (circuit partition trace : List ℕ) (capacity : ℕ) (setting : Setting) : Type 0 where
-  pub means : MeansDesign circuit setting.design
-  pub cuts : Cuts known setting.design partition setting.request
-  pub feeds : Feeds setting.design.circuit setting.request trace setting.cycles setting.columns
-  pub run : IsRunBy setting.design setting.request known.models setting.columns setting.cycles setting.rows
-  pub laid : IsLayoutOf setting.design setting.request capacity setting.cycles setting.layout
+  pub is : IsMeaning known circuit partition trace setting.meant
+  pub run : IsRunBy setting.meant.design setting.meant.request known.models setting.meant.columns setting.meant.cycles setting.rows
+  pub laid : IsLayoutOf setting.meant.design setting.meant.request capacity setting.meant.cycles setting.layout
 
 -- ---- names
 
@@ -82,7 +76,7 @@ naming_of design request = naming_by design request (listed_of design.tree reque
 
 -- the steps of a file, done one after another from the opening marking: where they lead, or the first that is refused
 abbrev pub replayed : Setting → (steps : List ℕ) → Result Marking Stopped
-replayed setting steps = replayed_from setting.layout 1 (opening_marking setting.layout 0) (steps_of (naming_of setting.design setting.request) steps)
+replayed setting steps = replayed_from setting.layout 1 (opening_marking setting.layout 0) (steps_of (naming_of setting.meant.design setting.meant.request) steps)
 
 -- each step of the file may be done
 abbrev pub AreDone : Known → (circuit partition trace : List ℕ) (capacity : ℕ) (steps : List ℕ) → Type 0
@@ -95,7 +89,7 @@ stopped_by naming events stopped = step_fault stopped.step (cause_text naming (s
 
 -- the same with the names of the setting's cut
 abbrev pub stopped_said : Setting → (steps : List ℕ) → Stopped → Said
-stopped_said setting steps stopped = stopped_by (naming_of setting.design setting.request) (steps_of (naming_of setting.design setting.request) steps) stopped
+stopped_said setting steps stopped = stopped_by (naming_of setting.meant.design setting.meant.request) (steps_of (naming_of setting.meant.design setting.meant.request) steps) stopped
 
 -- this is reported for steps of which one is refused
 abbrev pub TellsSteps : Known → (circuit partition trace : List ℕ) (capacity : ℕ) (steps : List ℕ) → Said → Type 0
@@ -113,7 +107,7 @@ steps_file_for known circuit partition trace capacity name =
 -- The number of all steps. In each cycle there are two for each channel, one for each machine, and one for each port
 -- that is served.
 abbrev pub all_steps : Setting → ℕ
-all_steps setting = setting.cycles * (2 * length setting.layout.links + length setting.layout.turns + all_dues setting.layout)
+all_steps setting = setting.meant.cycles * (2 * length setting.layout.links + length setting.layout.turns + all_dues setting.layout)
 
 -- Some line can be added to a steps file: each step of the longer file may be done.
 abbrev pub CanGoOn : Known → (circuit partition trace : List ℕ) (capacity : ℕ) (steps : List ℕ) → Type 0
@@ -132,9 +126,9 @@ GoesOnUntilAll known circuit partition trace capacity steps =
 -- the run, and before them the token 0 if the channel has a pipe.
 abbrev pub channel_told : Setting → Marking → List Wire → ℕ → List ℕ
 channel_told setting marking wires c =
-    channel_line (channel_name setting.design.circuit wires c) (shape_at (signal_shapes setting.design.circuit) (wire_at wires c).signal).width
+    channel_line (channel_name setting.meant.design.circuit wires c) (shape_at (signal_shapes setting.meant.design.circuit) (wire_at wires c).signal).width
     (marked_puts setting.layout marking c) (marked_takes setting.layout marking c)
-    (take (marked_entered setting.layout marking c) (stream 0 0 (is_piped setting.design.circuit setting.request (wire_at wires c).signal) (column setting.rows (wire_at wires c).signal)))
+    (take (marked_entered setting.layout marking c) (stream 0 0 (is_piped setting.meant.design.circuit setting.meant.request (wire_at wires c).signal) (column setting.rows (wire_at wires c).signal)))
 
 -- the lines of all channels
 abbrev pub lines_told : Setting → Marking → List Wire → List ℕ
@@ -143,7 +137,7 @@ lines_told setting marking wires = flat_map (channel_told setting marking wires)
 -- a line for each channel, in their order
 abbrev pub replay_text : Setting → Marking → List ℕ
 replay_text setting marking =
-    lines_told setting marking (plan_wires setting.design.circuit setting.design.tree setting.request)
+    lines_told setting marking (plan_wires setting.meant.design.circuit setting.meant.design.tree setting.meant.request)
 
 -- the text of `replay`, for the marking that the steps lead to
 abbrev pub IsReplayText : Known → (circuit partition trace : List ℕ) (capacity : ℕ) (steps text : List ℕ) → Type 0

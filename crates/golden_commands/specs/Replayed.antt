@@ -7,15 +7,12 @@ use Rattle.gg_flat.specs.Streams.{Flow}
 use Rattle.gg_flat_tree.specs.Tree.{InstanceTree, path_at}
 use Rattle.gg_cut_plan.specs.Bridges.{Models}
 use Rattle.gg_cut_plan.specs.declared.plan.Plan.{Plan}
-use Rattle.gg_node.specs.Machine.{Machine}
 use Rattle.gg_net.specs.declared.event.Event.{Event}
 use Rattle.gg_net.specs.Kept.{Kept, list_at}
-use Rattle.gg_net.specs.Net.{opening_net}
 use Rattle.gg_net.specs.Network.{Network, puts, entered, takes}
 use Rattle.gg_net.specs.markings.Goes.{Stopped}
 use Rattle.gg_net.specs.markings.Steps.{Steps, StopsAt}
-use Rattle.gg_build.specs.plan.Built.{AreBuilt, no_token, opening_of, wires_of_plan}
-use Rattle.gg_build.specs.Build.{flow_along}
+use Rattle.gg_build.specs.Build.{IsOpeningOf, flow_along}
 use Rattle.gg_replay.specs.steps_file.Naming.{Naming}
 use Rattle.gg_replay.specs.ReplayText.{channel_line}
 use Rattle.gg_io.specs.Said.{Said}
@@ -62,29 +59,25 @@ net_text plan flow net = flat_map (net_line plan flow net) (range_with_len 0 (le
 abbrev pub fed_flow : Models → Fed → Flow
 fed_flow models fed = flow_along fed.case.design fed.case.cut.request models fed.case.cut.plan fed.trace.columns fed.trace.rows
 
--- the plan's network before its first cycle, with these machines
-abbrev pub fed_opening : Fed → List Machine → Network
-fed_opening fed machines = opening_net machines (wires_of_plan no_token fed.case.cut.plan) fed.trace.rows
-
--- The machines of the plan's network, which carries the values of this flow.
-pub record Opened (fed : Fed) (flow : Flow) (machines : List Machine) : Type 0 where
-  pub built : AreBuilt fed.case.cut.plan (opening_of fed.case.cut.plan.ratios) fed.trace.columns machines
-  pub kept : Kept flow (fed_opening fed machines)
+-- A network is the plan's before its first cycle, and carries the values of this flow.
+pub record Opened (fed : Fed) (flow : Flow) (opening : Network) : Type 0 where
+  pub opens : IsOpeningOf fed.case.design fed.case.cut.request fed.case.cut.plan fed.trace.columns fed.trace.rows opening
+  pub kept : Kept flow opening
 
 -- The text of the network that these steps lead to.
 pub record IsNetText (fed : Fed) (flow : Flow) (events : List (Option Event)) (text : List ℕ) : Type 0 where
-  pub machines : List Machine
-  pub opened : Opened fed flow machines
+  pub opening : Network
+  pub opened : Opened fed flow opening
   pub net : Network
-  pub steps : Steps (fed_opening fed machines) events net
+  pub steps : Steps opening events net
   pub is : text ≡ net_text fed.case.cut.plan flow net
 
 -- This is reported for these steps, which stop at one.
 pub record TellsStop (fed : Fed) (flow : Flow) (naming : Naming) (events : List (Option Event)) (said : Said) : Type 0 where
-  pub machines : List Machine
-  pub opened : Opened fed flow machines
+  pub opening : Network
+  pub opened : Opened fed flow opening
   -- the network before the step that is refused
   pub net : Network
   pub stopped : Stopped
-  pub stops : StopsAt 1 (fed_opening fed machines) events net stopped
+  pub stops : StopsAt 1 opening events net stopped
   pub is : said ≡ stopped_by naming events stopped

@@ -17,7 +17,7 @@ use Rattle.gg_trace.specs.Last.{halts, row_count}
 use Rattle.gg_trace.specs.Printing.{text_from, trace_text}
 use Rattle.gg_bits.specs.Limits.{snap_limit}
 use Rattle.golden_commands.specs.Lines.{few_rows, snap_fault}
-use Rattle.golden_commands.specs.Meant.{AreMeant, Meant, meant_reference}
+use Rattle.golden_commands.specs.Meaning.{AreMeant, Meaning, meant_reference}
 use Rattle.golden_commands.specs.Partition.{Known}
 use Rattle.golden_commands.specs.RunText.{columns_of, outputs_kept, shown_ports, stops_kept}
 
@@ -26,17 +26,17 @@ use Rattle.golden_commands.specs.RunText.{columns_of, outputs_kept, shown_ports,
 -- the bytes are the text of a snapshot of the reference circuit, before a cycle that is at most the number of the trace's
 abbrev pub CanBeResumed : Known → (circuit partition trace snap : List ℕ) → Type 0
 CanBeResumed known circuit partition trace snap =
-    (meant : Meant) × (cycle : ℕ) × (state : State) × AreMeant known circuit partition trace meant × IsSnap (meant_reference meant) meant.design.tree snap cycle state × (cycle ≤ meant.cycles)
+    (meant : Meaning) × (cycle : ℕ) × (state : State) × AreMeant known circuit partition trace meant × IsSnap (meant_reference meant) meant.design.tree snap cycle state × (cycle ≤ meant.cycles)
 
 -- this is reported for bytes that aren't the text of such a snapshot: their first line that can't stand
 abbrev pub TellsNoSnap : Known → (circuit partition trace snap : List ℕ) → Said → Type 0
 TellsNoSnap known circuit partition trace snap said =
-    (meant : Meant) × (line : ℕ) × AreMeant known circuit partition trace meant × IsFirstFault (meant_reference meant) meant.design.tree snap line × (said ≡ snap_fault (fault_words (S1 line)))
+    (meant : Meaning) × (line : ℕ) × AreMeant known circuit partition trace meant × IsFirstFault (meant_reference meant) meant.design.tree snap line × (said ≡ snap_fault (fault_words (S1 line)))
 
 -- this is reported for a snapshot before a later cycle
 abbrev pub TellsLate : Known → (circuit partition trace snap : List ℕ) → Said → Type 0
 TellsLate known circuit partition trace snap said =
-    (meant : Meant) × (cycle : ℕ) × (state : State) × AreMeant known circuit partition trace meant × IsSnap (meant_reference meant) meant.design.tree snap cycle state
+    (meant : Meaning) × (cycle : ℕ) × (state : State) × AreMeant known circuit partition trace meant × IsSnap (meant_reference meant) meant.design.tree snap cycle state
     × (meant.cycles < cycle) × (said ≡ few_rows cycle meant.cycles)
 
 -- a snapshot's file: accepted if the run can be resumed from it
@@ -52,12 +52,12 @@ snap_file_for known circuit partition trace name =
 -- ---- the text
 
 -- the start of a run from a snapshot with this cycle and this state
-abbrev pub start_at : Meant → (cycle : ℕ) → State → Start
+abbrev pub start_at : Meaning → (cycle : ℕ) → State → Start
 start_at meant cycle state = record { cycle = cycle; state = state; ratios = ratios_of meant.design.tree meant.request }
 
 -- What the files of a circuit, a partition, a trace and a snapshot mean: the snapshot has this cycle and this state and no other, and these
 -- are the rows of the run from there, by cycle. For `resume` a partition asks for no bridge, so it is a run of the reference circuit.
-pub record HasRest (known : Known) (circuit partition trace snap : List ℕ) (meant : Meant) (cycle : ℕ) (state : State) (rows : List (List ℕ)) : Type 0 where
+pub record HasRest (known : Known) (circuit partition trace snap : List ℕ) (meant : Meaning) (cycle : ℕ) (state : State) (rows : List (List ℕ)) : Type 0 where
   pub are : AreMeant known circuit partition trace meant
   pub reads : IsSnap (meant_reference meant) meant.design.tree snap cycle state
   pub only : (c : ℕ) (s : State) → IsSnap (meant_reference meant) meant.design.tree snap c s → (c ≡ cycle) × (s ≡ state)
@@ -65,19 +65,19 @@ pub record HasRest (known : Known) (circuit partition trace snap : List ℕ) (me
   pub run : AreRows (meant_reference meant) (start_at meant cycle state) meant.columns meant.cycles rows
 
 -- how many cycles from the snapshot's on have a row: those up to the first in which a stop acts, or all
-abbrev pub rest_rows : Meant → (cycle : ℕ) → (rows : List (List ℕ)) → ℕ
+abbrev pub rest_rows : Meaning → (cycle : ℕ) → (rows : List (List ℕ)) → ℕ
 rest_rows meant cycle rows =
     row_count (λ k. halts (plan_stops meant.design meant.request) (columns_of (stops_kept meant.design meant.request) rows) (cycle + k)) (meant.cycles - cycle)
 
 -- a header, and these rows, with the columns of the top's outputs
-abbrev pub rest_text : Meant → (cycle : ℕ) → (rows : List (List ℕ)) → List ℕ
+abbrev pub rest_text : Meaning → (cycle : ℕ) → (rows : List (List ℕ)) → List ℕ
 rest_text meant cycle rows =
     text_from (shown_ports meant.design meant.request) (columns_of (outputs_kept meant.design meant.request) rows) cycle (rest_rows meant cycle rows)
 
 -- the text of the run from a snapshot on
 abbrev pub IsResumedText : Known → (circuit partition trace snap text : List ℕ) → Type 0
 IsResumedText known circuit partition trace snap text =
-    (meant : Meant) × (cycle : ℕ) × (state : State) × (rows : List (List ℕ)) × HasRest known circuit partition trace snap meant cycle state rows × (text ≡ rest_text meant cycle rows)
+    (meant : Meaning) × (cycle : ℕ) × (state : State) × (rows : List (List ℕ)) × HasRest known circuit partition trace snap meant cycle state rows × (text ≡ rest_text meant cycle rows)
 
 -- ---- what `resume` writes after `save`
 

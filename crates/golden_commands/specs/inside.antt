@@ -2,6 +2,7 @@
 pub mod Runs
 pub mod Bridges
 pub mod Case
+pub mod HandFault
 pub mod Commands
 pub mod Outcome
 pub mod Partition

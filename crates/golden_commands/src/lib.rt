@@ -9,9 +9,11 @@
 //! - Reference: `reference_of` makes the circuit with a register for each pipe. `shown_ports` are the outputs that no bridge sees.
 //! - Printed: `print_run` prints a run by the simulator, and `print_fed` from the network of the cut. `replay_net` does steps on that
 //!   network and prints the tokens of each channel. `print_plan` prints the machines and the channels of a cut.
+//! - Handed in: [`Bridges`] are bridges that can be handed in, each with its name.
 //! - Reported: `end_at_words`, `end_at_snap` and `end_few` say what is reported for words and for snapshots.
 #![tactic(auto)]
 
+mod bridges;
 mod case;
 mod checking;
 mod handed;
@@ -26,6 +28,7 @@ mod whole;
 mod windows;
 mod words;
 
+pub use bridges::{Bridges, HandFault, MOST_SIGNALS};
 pub use case::{Case, Fed, read_case, read_fed};
 pub use checking::print_plan;
 pub use handed::models_of;

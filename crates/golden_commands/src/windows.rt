@@ -1,8 +1,7 @@
 //! Printing of the run of a circuit from the network of a plan.
-ghost use Rattle.std.specs.Prelude.{◌≡◌, ◌≤◌, ℕ, List, IfOk, length};
+ghost use Rattle.std.specs.Prelude.{◌≤◌, ℕ, List, IfOk, length};
 ghost use Rattle.gg_cut_reference.specs.whole.Whole.{plan_circuit};
 ghost use Rattle.gg_build.specs.inside.Build.{HasBridges};
-ghost use Rattle.gg_cut_plan.specs.Seated.{first_kept_tray, plan_bridges};
 ghost use Rattle.gg_rows.specs.Printed.{AreKept, plan_stops};
 ghost use Rattle.gg_rows.specs.inside.Printed.{out_columns, rows_to, text_of};
 ghost use Rattle.gg_io.specs.inside.Endings.{PrintsOn};
@@ -38,12 +37,12 @@ fn print_flow<R: Threads + Sync, B: Bridge + Send + Drop, Z: Streams, K: Sink, G
     gate: &G,
 ) -> Result<(), Ending>
     requires few { workers ≤ 64 }
-    requires run { (run : IsToReplay fed.now Z.flow) × (run.design ≡ fed.now.case.design) × (length ports.now ≤ length (plan_circuit run.design run.request run.models).outs) }
+    requires run { (replay : IsToReplay fed.now Z.flow) × (length ports.now ≤ length (plan_circuit replay.run.design replay.run.request replay.run.models).outs) }
     requires bridges { HasBridges B.piece B.state fed.now.case.cut.plan bridges.items }
-    ensures prints { (run : IsToReplay fed.now Z.flow) → run.design ≡ fed.now.case.design
-        → PrintsOn K.Sink out.old out.new (text_of (plan_stops run.design run.request) (plan_circuit run.design run.request run.models) ports.now run.rows fed.now.trace.rows) result }
-    ensures kept { IfOk result (λ done. (run : IsToReplay fed.now Z.flow) → run.design ≡ fed.now.case.design
-        → AreKept fed.now.case.cut.plan fed.now.trace.columns fed.now.trace.rows (first_kept_tray (plan_bridges run.design.circuit run.design.tree run.request)) (rows_to (plan_stops run.design run.request) (plan_circuit run.design run.request run.models) ports.now run.rows fed.now.trace.rows) (out_columns (plan_circuit run.design run.request run.models) run.rows)) }
+    ensures prints { (replay : IsToReplay fed.now Z.flow)
+        → PrintsOn K.Sink out.old out.new (text_of (plan_stops replay.run.design replay.run.request) (plan_circuit replay.run.design replay.run.request replay.run.models) ports.now replay.run.rows fed.now.trace.rows) result }
+    ensures kept { IfOk result (λ done. (replay : IsToReplay fed.now Z.flow)
+        → AreKept replay.run.design replay.run.request fed.now.case.cut.plan fed.now.trace.columns fed.now.trace.rows (rows_to (plan_stops replay.run.design replay.run.request) (plan_circuit replay.run.design replay.run.request replay.run.models) ports.now replay.run.rows fed.now.trace.rows) (out_columns (plan_circuit replay.run.design replay.run.request replay.run.models) replay.run.rows)) }
     ensures out { SinkWentOn K.Sink out.old out.new }
 {
     let case = &fed.case;

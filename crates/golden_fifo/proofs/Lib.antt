@@ -1,2 +1,3 @@
 pub mod HandLemmas
 pub mod FifoLemmas
+mod WorkedFifo

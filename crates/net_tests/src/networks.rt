@@ -10,6 +10,7 @@
 //! refuses 8F: Stranger
 //! refuses 0F behind 0F 3E: Full { channel: 0, len: 1 }
 //! calls 3F0 3E0 0L0
+//! each 3F0 3E0 0L0
 //! ```
 //!
 //! - `hosts`: each machine's host;
@@ -18,7 +19,8 @@
 //! - `serves`: of machine 1 the numbers of its memory's ports, of those that are served in a cycle, and of all times that one was served;
 //! - `refuses`: a step that is refused, maybe behind others, and why;
 //! - `calls`: the first steps of a run to the end, as `is_in_order` reads them: round by round, in each the machines by number, and of each its ins, its outs, its
-//!   ports and the end of its cycle, as far as each may be done. The order isn't told if there is no such line.
+//!   ports and the end of its cycle, as far as each may be done. The order isn't told if there is no such line;
+//! - `each`: the steps of each cycle where all machines are brought to one cycle before any goes on: by calls of `run_to`, and by one of `run_by`.
 ghost use Rattle.std.specs.Prelude.{◌≡◌, ◌<◌, [], length};
 ghost use Rattle.gg_build.specs.inside.Build.{IsToRun, NeedsNone};
 ghost use Rattle.gg_cut_plan.specs.Fault.{IsSmall};
@@ -30,7 +32,7 @@ ghost use Rattle.gg_flat.specs.Run.{IsColumns};
 use crate::built::build_alone;
 use crate::cases::{circuit_of, field, is_known, trace_of};
 use crate::measures::end_alike;
-use crate::orders::is_in_order;
+use crate::orders::{is_each_alike, is_in_order};
 use crate::reading::{design_of, inputs_of, request_of};
 use crate::refusals::are_refused;
 use gg_bridge::Echo;
@@ -46,8 +48,9 @@ use std::marker::Brand;
 use std::process::Abort;
 
 // The words with which the lines of a case begin.
-static KEYS: [&str; 10] = [
+static KEYS: [&str; 11] = [
     "circuit", "trace", "on", "has", "hosts", "keeps", "steps", "serves", "refuses", "calls",
+    "each",
 ];
 
 // What is expected of a network.
@@ -99,6 +102,7 @@ keeps 0 0 1 2
 steps 1F 1L 2E 0F 0L 0E 1E
 refuses 0L: NoToken { channel: 0 }
 calls 0F0 1F0 1E0 2L0 2E0 0L0 0E0 1F0 1E0 0L0 0F0 0E0 1F0 1E0 2L0 2E0 0L0 0F0 0E0 1F0 1E0 2L0 2E0 0L0 0F0 0E0 2L0 2E0
+each 0F0 1F0 1E0 2L0 2E0 0L0 0E0
 
 # a memory of latency 0 that is a machine of its own: its data waits for its address
 circuit memory
@@ -128,6 +132,7 @@ refuses 0F behind 0F 3E: Full { channel: 0, len: 1 }
 refuses 0E: Unfired { channel: 1 }
 refuses 0F behind 0F 3E 0L 0F 3E: Ended
 calls 3F0 3E0 0L0 0F0 1L0 1F0 3F0 3E0 0L1 0F2 2L0 2F0 2E0 0L3 0F1 1L1 1F1 1E0 0L2 0F3 0E0 4L0 4E0 0L0 0F0 1L0 1F0 0L1 0F2 2L0 2F0 2E0 0L3 0F1 1L1 1F1 1E0 0L2 0F3 0E0 4L0 4E0
+each 3F0 3E0 0L0 0F0 1L0 1F0 0L1 0F2 2L0 2F0 2E0 0L3 0F1 1L1 1F1 1E0 0L2 0F3 0E0 4L0 4E0
 
 # a memory whose two writers are served one after the other
 circuit four_ports
@@ -143,6 +148,7 @@ refuses 1E behind 0F 1F 0L 1L 2F 3F 5F 6F 2L 3L 5L 6L 4F 7F: Unserved { port: 2 
 refuses 3S behind 0F 1F 0L 1L 2F 3F 5F 6F 2L 3L 5L 6L 4F 7F: Order { due: 2 }
 refuses 2S behind 0F 1F 0L 1L 2F 3F 5F 6F 2L 3L 5L 6L 4F 7F: NeedsInput { channel: 8 }
 calls 0F1 0F5 0F7 0F9 0F11 1L1 1L5 1L7 1L9 1L11 2F0 2E0 3F0 3E0 0L0 0L1 0F0 0F2 0F3 0F4 0F6 0F8 0F10 1L0 1L2 1L3 1L4 1L6 1L8 1L10 1F0 1F1 1S2 1S3 1E0 2F0 2E0 3F0 3E0 0L2 0L3 0F12 0F13 0E0 4L0 4E0 5L0 5E0
+each 0F1 0F5 0F7 0F9 0F11 1L1 1L5 1L7 1L9 1L11 2F0 2E0 3F0 3E0 0L0 0L1 0F0 0F2 0F3 0F4 0F6 0F8 0F10 1L0 1L2 1L3 1L4 1L6 1L8 1L10 1F0 1F1 1S2 1S3 1E0 0L2 0L3 0F12 0F13 0E0 4L0 4E0 5L0 5E0
 "#;
 
 // The step of a letter and a number.
@@ -332,6 +338,7 @@ fn is_built<Z: Streams>(
         && is_built_twice::<Z>(alloc, plan, inputs, case)
         && are_refused::<Z>(alloc, plan, inputs, case)
         && is_in_order::<Z>(alloc, plan, inputs, field(case.text, "calls "))
+        && is_each_alike::<Z>(alloc, plan, inputs, field(case.text, "each "), case.end)
 }
 
 // Whether the network of a design and a request without bridges runs as expected, for channels of capacity 1.

@@ -35,7 +35,7 @@ fn call_of(word: &str) -> u64 {
     noted.saturating_add(number)
 }
 
-// The first 64 calls that the hosts of a network noted, in their order.
+// The first 256 calls that the hosts of a network noted, in their order.
 pub(crate) struct Notes {
     calls: Vec<AtomicU64>,
     count: AtomicU64,
@@ -57,7 +57,7 @@ impl Notes {
     // Returns `AllocError` if an allocation fails.
     pub(crate) fn new(alloc: Global) -> Result<Notes, AllocError> {
         let mut calls = Vec::new(alloc);
-        for _ in 0..64u32 {
+        for _ in 0..256u32 {
             calls.push(AtomicU64::new(0))?;
         }
         Ok(Notes {
@@ -75,19 +75,23 @@ impl Notes {
         self.count.store(count.saturating_add(1), Ordering::SeqCst);
     }
 
-    // Whether the first calls are those of these words, in their order.
-    pub(crate) fn begin_with(&self, words: &str) -> bool {
-        let mut count: usize = 0;
+    // The number of calls.
+    pub(crate) fn count(&self) -> u64 {
+        self.count.load(Ordering::SeqCst)
+    }
+
+    // How many calls there are up to the end of these words, if the calls behind the first `begun` are theirs, in their order. None if they
+    // aren't.
+    pub(crate) fn behind(&self, begun: u64, words: &str) -> Option<u64> {
+        let mut count = begun;
         for word in words.split(' ') {
-            let Some(place) = self.calls.as_slice().get(count) else {
-                return false;
-            };
+            let place = self.calls.as_slice().get(count as usize)?;
             if place.load(Ordering::SeqCst) != call_of(word) {
-                return false;
+                return None;
             }
             count = count.saturating_add(1);
         }
-        true
+        Some(count)
     }
 }
 

@@ -7,11 +7,16 @@ use Rattle.gg_flat.specs.Circuit.{FlatCircuit}
 use Rattle.gg_flat.specs.Line.{shape_at}
 use Rattle.gg_flat.specs.State.{State}
 use Rattle.gg_flat.specs.Settled.{in_shapes}
-use Rattle.gg_node.specs.Machine.{latch_at}
+use Rattle.gg_node.specs.Machine.{Machine, latch_at}
 use Rattle.gg_bridge.specs.Model.{IsModel}
 use Rattle.gg_bridge.specs.inside.Model.{IsSaid}
 use Rattle.gg_bridge.specs.Turned.{turned}
 use Rattle.gg_bridge.specs.inside.Turned.{AreAllPlaces}
+
+-- what a contract sees of a bridge's host: its machine, and the bridge itself
+pub record Hosting (B : Type 0) : Type 0 where
+  pub machine : Machine
+  pub bridge : B
 
 -- A machine's ins are all places of the model's in-signals, in some order, and its outs are places of the model's out-signals.
 pub record ArePorts (model : FlatCircuit) (ins outs : List ℕ) : Type 0 where

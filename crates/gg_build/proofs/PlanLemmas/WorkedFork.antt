@@ -15,8 +15,8 @@ use Rattle.gg_cut_plan.specs.declared.plan.Plan.{Plan}
 use Rattle.gg_node.specs.Machine.{Machine, no_state, source_machine}
 use Rattle.gg_net.specs.declared.shape.Wire.{Wire}
 use Rattle.gg_net.specs.Network.{IsAtOut, kind_of}
-use Rattle.gg_build.specs.plan.Built.{IsBuilt, body_start, machine_in, no_token, wires_of_plan}
-use Rattle.gg_build.specs.inside.Built.{IsListedAt}
+use Rattle.gg_build.specs.plan.Built.{IsBuilt, body_start, machine_in, wires_of_plan}
+use Rattle.gg_build.specs.inside.Built.{IsListedAt, no_token}
 
 abbrev machine : List ℕ → Body → List ℕ → List ℕ → planned.Machine
 machine name body ins outs = record { name = name; host = 0; body = body; ins = ins; outs = outs }

@@ -26,7 +26,8 @@ use Rattle.gg_node.specs.Machine.{Machine}
 use Rattle.gg_cut_reference.specs.Made.{plan_reference, plan_seen}
 use Rattle.gg_net.specs.declared.shape.Wire.{Wire}
 use Rattle.gg_net.specs.Kept.{Solves}
-use Rattle.gg_build.specs.plan.Built.{IsUnitOf, body_rows, body_start, flow_of, no_token, opening_of, place_in, plan_frame, wires_of_plan}
+use Rattle.gg_build.specs.plan.Built.{IsUnitOf, body_rows, body_start, flow_of, place_in, plan_frame, wires_of_plan}
+use Rattle.gg_build.specs.inside.Built.{no_token, opening_of}
 
 abbrev machine : List ℕ → List ℕ → List ℕ → planned.Machine
 machine name ins outs = record { name = name; host = 0; body = Tray; ins = ins; outs = outs }

@@ -50,6 +50,14 @@ IsOther (Bridge body) name = body.name ≢ name
 abbrev pub KeepsOthers : {B : Type 0} → Body → Table B → Table B → Type 0
 KeepsOthers body old new = (name : List ℕ) → IsOther body name → bridge_named new name ≡ bridge_named old name
 
+-- The table still has for a machine the bridge that it had, if the machine is that of a bridge.
+abbrev pub HasSame : {B : Type 0} → Table B → Table B → Body → Type 0
+HasSame old new (Cut part) = ⊤
+HasSame old new (Memory part) = ⊤
+HasSame old new (Source place) = ⊤
+HasSame old new Tray = ⊤
+HasSame old new (Bridge body) = bridge_named new body.name ≡ bridge_named old body.name
+
 -- Two machines aren't those of bridges with one name.
 abbrev pub AreApart : Body → Body → Type 0
 AreApart one other = (body : BridgeBody) → other ≡ Bridge body → IsOther one body.name

@@ -1,6 +1,6 @@
 -- More on Each: what no promise of the program's speaks of.
 -- Source: this program's own.
-use Rattle.std.specs.Prelude.{◌≡◌, ℕ, ◌<◌, List, length}
+use Rattle.std.specs.Prelude.{◌≡◌, ◌↔◌, ℕ, ◌<◌, List, length}
 use Rattle.gg_flat.specs.Run.{Start}
 use Rattle.gg_order.specs.Design.{Ordered}
 use Rattle.gg_partfile.specs.declared.request.Request.{Request}
@@ -13,7 +13,8 @@ use Rattle.gg_cut_plan.specs.Bridges.{Models}
 use Rattle.gg_cut_reference.specs.Follows.{plan_start}
 use Rattle.gg_node.specs.Machine.{Machine}
 use Rattle.gg_net.specs.Network.{Frame}
-use Rattle.gg_build.specs.plan.Built.{AreBuilt, body_start, machine_in, opening_of, plan_frame}
+use Rattle.gg_build.specs.plan.Built.{AreBuilt, body_start, machine_in, plan_frame}
+use Rattle.gg_build.specs.inside.Built.{opening_of}
 use Rattle.gg_build.specs.plan.Each.{OfEachPlan}
 
 -- ---- machines
@@ -66,8 +67,8 @@ OfEachCut Holds =
 
 -- ---- zeros
 
--- the machines of a plan that begin at cycle 0, with zeros, are those that begin with the start of the request
-abbrev pub BeginsWithZeros : Ordered → Request → Plan → Type 0
-BeginsWithZeros design request plan =
-    (columns : List (List ℕ)) (machines : List Machine) → AreBuilt plan (opening_of plan.ratios) columns machines
-    → AreBuilt plan (body_start (plan_start design request)) columns machines
+-- the machines of a plan that begin with the start of the request are those that begin at cycle 0, with zeros
+abbrev pub ZerosAreTheStart : Ordered → Request → Plan → Type 0
+ZerosAreTheStart design request plan =
+    (columns : List (List ℕ)) (machines : List Machine)
+    → AreBuilt plan (body_start (plan_start design request)) columns machines ↔ AreBuilt plan (opening_of plan.ratios) columns machines

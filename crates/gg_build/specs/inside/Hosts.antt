@@ -1,7 +1,7 @@
 -- The hosts of the machines of a plan, and their stations.
 -- Source: ICCAD 2019 (units and memories of a target as models of their own, each on a host; duplicate instances that share one;
 -- memories that are served port by port).
-use Rattle.std.specs.Prelude.{◌≡◌, ◌≢◌, ◌↔◌, ℕ, ◌^◌, ◌<◌, ◌≤◌, List, [], ◌∷◌, ◌++◌, All, length, map, slice_index_or, ⊤}
+use Rattle.std.specs.Prelude.{◌≡◌, ◌≢◌, ◌↔◌, ℕ, ◌^◌, ◌<◌, ◌≤◌, List, [], ◌∷◌, ◌++◌, All, Contains, Some, length, map, slice_index_or, ⊤}
 use Rattle.gg_flat.specs.Circuit.{FlatCircuit}
 use Rattle.gg_flat.specs.Clock.{Ratio}
 use Rattle.gg_flat.specs.Line.{value_at}
@@ -26,7 +26,7 @@ use Rattle.gg_build.specs.inside.Alone.{IsCutAgain}
 use Rattle.gg_build.specs.plan.Built.{IsBuilt, IsUnitOf, machine_in, nameless}
 use Rattle.gg_build.specs.declared.node.Node.{Node}
 use Rattle.gg_build.specs.declared.node.Node.TheVariants as node
-use Rattle.gg_build.specs.inside.Bridges.{Table, AreApart, HasOwn}
+use Rattle.gg_build.specs.inside.Bridges.{Table, AreApart, HasOwn, bridge_named}
 use Rattle.gg_build.specs.inside.Groups.{FirstsAscend, group_at}
 use Rattle.gg_build.specs.inside.Node.{machines_of}
 
@@ -138,7 +138,7 @@ HasPorts (node.Shared units) = ⊤
 HasPorts (node.Memory machine) = IsServed machine
 HasPorts (node.Source machine) = machine.ports ≡ []
 HasPorts (node.Tray machine) = machine.ports ≡ []
-HasPorts (node.Bridge machine) = machine.ports ≡ []
+HasPorts (node.Bridge host) = host.machine.ports ≡ []
 
 -- A node has a single machine, which has the property `Is`.
 pub record IsHost {B : Type 0} (Is : Machine → Type 0) (node : Node B) : Type 0 where
@@ -155,6 +155,51 @@ pub record IsHostOf {B : Type 0} (starts : Body → Start) (columns : List (List
 pub record AreHosts {B : Type 0} (starts : Body → Start) (columns : List (List ℕ)) (machines : List planned.Machine) (members : List (List ℕ)) (count : ℕ) (nodes : List (Node B)) : Type 0 where
   pub total : length nodes ≡ count
   pub each : (h : ℕ) (any : Node B) → h < count → IsHostOf starts columns machines (group_at members h) (slice_index_or nodes h any)
+
+-- ---- which host a machine has
+
+-- the kinds of hosts of what is no bridge: of units, of a memory that is served, of a source, of a tray; and of a bridge
+pub data HostKind : Type 0 where
+  OfUnits : HostKind
+  OfMemory : HostKind
+  OfSource : HostKind
+  OfTray : HostKind
+  OfBridge : HostKind
+
+abbrev pub kind_of : {B : Type 0} → Node B → HostKind
+kind_of (node.Unit unit) = OfUnits
+kind_of (node.Shared units) = OfUnits
+kind_of (node.Memory machine) = OfMemory
+kind_of (node.Source machine) = OfSource
+kind_of (node.Tray machine) = OfTray
+kind_of (node.Bridge host) = OfBridge
+
+-- The node is the host of a bridge, which has the property `Is`.
+abbrev pub IsHostOfBridge : {B : Type 0} → (Is : B → Type 0) → Node B → Type 0
+IsHostOfBridge Is (node.Unit unit) = ⊥
+IsHostOfBridge Is (node.Shared units) = ⊥
+IsHostOfBridge Is (node.Memory machine) = ⊥
+IsHostOfBridge Is (node.Source machine) = ⊥
+IsHostOfBridge Is (node.Tray machine) = ⊥
+IsHostOfBridge Is (node.Bridge host) = Is host.bridge
+
+-- The node is the host that a machine of a plan asks for. That of a bridge is the host of the bridge with its name. `Has` says which bridges have
+-- which names.
+abbrev pub IsOwnHost : {B : Type 0} → (Has : List ℕ → B → Type 0) → Body → Node B → Type 0
+IsOwnHost Has (Cut part) node = kind_of node ≡ OfUnits
+IsOwnHost Has (Memory part) node = kind_of node ≡ OfMemory
+IsOwnHost Has (Source place) node = kind_of node ≡ OfSource
+IsOwnHost Has Tray node = kind_of node ≡ OfTray
+IsOwnHost Has (Bridge body) node = IsHostOfBridge (Has body.name) node
+
+-- the same of the hosts of these groups of machines, where the bridges are in a table
+abbrev pub AreOwnHosts : {B : Type 0} → Table B → List planned.Machine → List (List ℕ) → ℕ → List (Node B) → Type 0
+AreOwnHosts {B} table machines members count nodes = (h : ℕ) (any : Node B) → h < count → IsOwnHost (λ name bridge. bridge_named table name ≡ Some bridge) (first_body machines members h) (slice_index_or nodes h any)
+
+-- Each machine of the plan is at the host that it asks for: a bridge's at the host of the bridge that is handed in with its name.
+abbrev pub HaveOwnHosts : {B : Type 0} → Plan → List (List ℕ × B) → List (Node B) → List Station → Type 0
+HaveOwnHosts {B} plan bridges nodes stations = (m : ℕ) (other : Station) (any : Node B) → m < length plan.machines
+    → IsOwnHost (λ name bridge. Contains bridges (name, bridge)) (machine_in plan m).body (slice_index_or nodes (slice_index_or stations m other).host any)
 
 -- ---- units that share a host
 

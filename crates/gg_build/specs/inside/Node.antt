@@ -13,7 +13,7 @@ machines_of (node.Shared units) = shared.machines_of units
 machines_of (node.Memory machine) = machine ∷ []
 machines_of (node.Source machine) = machine ∷ []
 machines_of (node.Tray machine) = machine ∷ []
-machines_of (node.Bridge machine) = machine ∷ []
+machines_of (node.Bridge host) = host.machine ∷ []
 
 -- the first machine of a node, which for most is the only one
 abbrev pub machine_of : {B : Type 0} → Node B → Machine

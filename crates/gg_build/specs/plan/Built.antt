@@ -8,8 +8,7 @@ use Rattle.gg_bits.specs.Limits.{tray_rows, cycle_limit}
 use Rattle.gg_flat.specs.Circuit.{FlatCircuit}
 use Rattle.gg_flat_tree.specs.Clocked.{clocks_from}
 use Rattle.gg_flat.specs.Line.{value_at}
-use Rattle.gg_flat.specs.Clock.{Ratio}
-use Rattle.gg_flat.specs.Run.{IsColumns, Start, clocked_start, opening_start}
+use Rattle.gg_flat.specs.Run.{IsColumns, Start}
 use Rattle.gg_flat.specs.State.{State, IsState, opening}
 use Rattle.gg_flat.specs.Streams.{Flow}
 use Rattle.gg_flat.specs.WellFormed.{IsWellFormed}
@@ -17,7 +16,7 @@ use Rattle.gg_order.specs.Design.{Ordered}
 use Rattle.gg_partfile.specs.declared.request.Request.{Request}
 use Rattle.gg_order.specs.needs.Needs.{AreNeedsOfOuts}
 use Rattle.gg_part.specs.Part.{IsPart}
-use Rattle.gg_part.specs.PartRun.{part_ratios, part_rows, part_start, part_state}
+use Rattle.gg_part.specs.PartRun.{part_rows, part_start, part_state}
 use Rattle.gg_part.specs.declared.part.Part.{Part}
 use Rattle.gg_cut_plan.specs.Alike.{IsAlike}
 use Rattle.gg_cut_plan.specs.declared.plan.Body.{Body}
@@ -61,10 +60,6 @@ place_in channels c = unwrap_or (first_place (λ d. d == c) channels) 0
 abbrev pub first_token : Bool → ℕ → Option ℕ
 first_token pipe token = if pipe then Some token else None
 
--- the tokens with which all begins at cycle 0
-abbrev pub no_token : ℕ → ℕ
-no_token s = 0
-
 -- the channel of the network for a channel of the plan, which has number c; `token` has the token of each signal's pipe
 abbrev pub wire_of : (token : ℕ → ℕ) → Plan → ℕ → Channel → Wire
 wire_of token plan c channel =
@@ -96,14 +91,6 @@ body_start start (Memory part) = part_start part.held part.memories part.clocks 
 body_start start (Source place) = record { cycle = start.cycle; state = no_state; ratios = [] }
 body_start start Tray = record { cycle = start.cycle; state = no_state; ratios = [] }
 body_start start (Bridge bridge) = model_start bridge.model start
-
--- where a machine begins at cycle 0, with zeros, if the circuit's clocks have these ratios
-abbrev pub opening_of : List Ratio → Body → Start
-opening_of ratios (Cut part) = clocked_start part.piece (part_ratios part.clocks ratios)
-opening_of ratios (Memory part) = clocked_start part.piece (part_ratios part.clocks ratios)
-opening_of ratios (Source place) = record { cycle = 0; state = no_state; ratios = [] }
-opening_of ratios Tray = record { cycle = 0; state = no_state; ratios = [] }
-opening_of ratios (Bridge bridge) = opening_start bridge.model
 
 -- ---- machines before their first step
 

@@ -14,9 +14,9 @@ ghost use Rattle.gg_node.specs.Step.{fields_of};
 ghost use Rattle.gg_net.specs.Network.{kind_at};
 ghost use Rattle.gg_net.specs.Kept.{IsWired, HasNoRing};
 ghost use Rattle.gg_net.specs.inside.Net.{IsOpening};
-ghost use Rattle.gg_build.specs.inside.Built.{IsListedAt};
-ghost use Rattle.gg_build.specs.plan.Built.{no_token, wires_of_plan};
-ghost use Rattle.gg_build.specs.inside.Each.{BeginsWithZeros, OfEachNetwork};
+ghost use Rattle.gg_build.specs.inside.Built.{IsListedAt, no_token};
+ghost use Rattle.gg_build.specs.plan.Built.{wires_of_plan};
+ghost use Rattle.gg_build.specs.inside.Each.{OfEachNetwork, ZerosAreTheStart};
 ghost use Rattle.gg_build.specs.plan.Each.{OfEachPlan, OfEachStarted};
 
 use gg_cut_reference::circuit_runs;
@@ -57,7 +57,7 @@ pub fn machines_are_opening()
 /// At cycle 0, with zeros, each unit and each listed memory begins with zeros, and each pipe with the token 0.
 pub fn all_begin_with_zeros()
     ensures machines { (design : Ordered) (request : Request) (models : Models) (default : ℕ) (plan : Plan)
-        → CanBridge design request models → IsPlan design request models default plan → BeginsWithZeros design request plan }
+        → CanBridge design request models → IsPlan design request models default plan → ZerosAreTheStart design request plan }
     ensures tokens { (design : Ordered) (request : Request) (plan : Plan)
         → wires_of_plan (plan_token design request (plan_start design request).state) plan ≡ wires_of_plan no_token plan }
 {}

@@ -1,4 +1,4 @@
--- What each machine of the cut does: its part, and for a unit that shares its host the part of the host's first unit, moved.
+-- The parts of machines: a machine's own, and for a unit that shares its host the part of the host's first unit, moved.
 use Rattle.std.proofs.Common.{◌≡◌, ◌≢◌, ℕ, ◌-◌, ◌<◌, ◌≤◌, List, Option, map, refl, sym, subst, inl, inr, ◌⊎◌, arith}
 use Rattle.std.specs.Prelude.{All, AllPairs, Contains}
 use Rattle.std.proofs.lemmas.Bool.{cases_eq, cases_lt}
@@ -11,20 +11,15 @@ use Rattle.gg_part.specs.declared.part.Part.{Part}
 use Rattle.gg_part.specs.inside.Clocking.{AreTimed, IsTimed}
 use Rattle.gg_part.proofs.AlongLemmas.{IsInOrder-along}
 use Rattle.gg_cut_plan.specs.declared.listed.Listed.{Listed}
-use Rattle.gg_cut_plan.specs.declared.plan.Body.{Body}
-use Rattle.gg_cut_plan.specs.declared.plan.Body.TheVariants.{Cut, Memory, Source, Tray, Bridge}
-use Rattle.gg_cut_plan.specs.Alike.{AreAlike}
+use Rattle.gg_cut_plan.specs.Alike.{IsAlike}
 use Rattle.gg_cut_plan.specs.Direct.{Hub, routes}
-use Rattle.gg_cut_plan.specs.Machines.{first_memory, first_source, first_tray, first_unit}
-use Rattle.gg_cut_plan.specs.inside.Machines.{machine_count}
-use Rattle.gg_cut_plan.specs.Plan.{IsCutBody, IsCutPart, channels_from, channels_to, givens_of, machine_clocks, signals_of}
+use Rattle.gg_cut_plan.specs.Machines.{first_memory, first_source, first_unit}
+use Rattle.gg_cut_plan.specs.Plan.{IsCutPart, channels_from, channels_to, givens_of, machine_clocks, signals_of}
 use Rattle.gg_cut_plan.specs.inside.Plan.{Makes}
 use Rattle.gg_cut_split.specs.inside.Apart.{AreApart}
 use Rattle.gg_cut_split.specs.inside.Again.{HasSignal, IsUnitAgain, again_at, cut_wires}
 use Rattle.gg_cut_parts.specs.inside.Domains.{AreUnitClocks}
 use Rattle.gg_cut_parts.proofs.DomainTimes.{machine-timed, top-clocks, whole-timed}
-use Rattle.gg_cut_split.specs.declared.share.Share.{Share}
-use Rattle.gg_cut.specs.inside.Made.{HasAscending, IsTimedUnit}
 use Rattle.gg_cut_parts.specs.inside.MovedPart.{IsFollower, IsMovedPiece, IsUnitRouted, IsUnitShare}
 use Rattle.gg_cut_parts.proofs.FollowerLemmas.{follows, ready}
 use Rattle.gg_cut_parts.proofs.MachineLemmas.{cut-part}
@@ -41,13 +36,6 @@ pub record HasCutPart (design : Ordered) (listed : Listed) (hub : Hub) (clocking
   pub cut : IsCutPart design listed hub m part
   pub ascend : AllPairs (λ a b. a < b) part.memories
   pub timed : first_unit ≤ m → m < first_memory listed → IsTimed part.piece part.held part.memories clocking.registers clocking.ports
-
--- what a machine does, by its number
-pub record HasBody (design : Ordered) (listed : Listed) (hub : Hub) (clocking : Clocking) (m : ℕ) : Type 0 where
-  pub body : Body
-  pub is : IsCutBody design listed hub m body
-  pub ascend : HasAscending body
-  pub timed : IsTimedUnit listed clocking m body
 
 module _ (design : Ordered) (listed : Listed) (hub : Hub) (is : IsDesign design) (keeps : KeepsToTree design.circuit design.tree) (apart : AreApart design.tree listed) (units : Clocking) (are : AreUnitClocks design listed units) (m : ℕ) (has : HasShare design listed hub m) (low : m < first_source listed) where
   abbrev taken : List ℕ
@@ -66,10 +54,9 @@ module _ (design : Ordered) (listed : Listed) (hub : Hub) (is : IsDesign design)
   cut-by : (clocking : Clocking) → Timed clocking → (first_unit ≤ m → m < first_memory listed → clocking ≡ units) → HasPart design.circuit has.globals taken given has.memories clocks clocking.registers clocking.ports → HasCutPart design listed hub units m
   cut-by clocking timed own found =
       let part : Part = record { piece = found.piece; globals = has.globals; held = found.held; memories = has.memories; clocks = clocks } in
-      let share : Share = record { ins = channels_to (routes hub) m; outs = channels_from (routes hub) m; globals = has.globals; memories = has.memories } in
       record {
         part = part;
-        cut = cut-part design listed hub (routes hub) refl m share design.circuit part has.is refl found.is refl refl refl found.taken found.given found.are is.ordered IsInOrder-along;
+        cut = cut-part design listed hub (routes hub) refl m (channels_to (routes hub) m) (channels_from (routes hub) m) has.globals has.memories design.circuit part has.is refl found.is refl refl refl found.taken found.given found.are is.ordered IsInOrder-along;
         ascend = has.is.ascend;
         timed = λ first high. subst (λ (c : Clocking). IsTimed found.piece found.held has.memories c.registers c.ports) (own first high) found.timed;
       }
@@ -104,33 +91,15 @@ module _ (design : Ordered) (listed : Listed) (hub : Hub) (is : IsDesign design)
       by (inr some) (inl lt) = cut-with units (unit-timed (let other : m ≢ 0 = some in omega (arith, other)) lt (routed some)) (λ first high. refl)
       by (inr some) (inr ge) = cut-with (whole_clocks design.circuit) (top-timed (inr ge)) (λ first high. absurd (omega (arith, ge, high)))
 
--- ---- what a machine does that is the first of its host
-
-module _ (design : Ordered) (listed : Listed) (hub : Hub) (units : Clocking) (m : ℕ) where
-  pub own-body : (m < first_source listed → HasCutPart design listed hub units m) → m < machine_count design.circuit listed → HasBody design listed hub units m
-  own-body part known = by (cases_lt m (first_memory listed)) (cases_lt m (first_source listed)) (cases_lt m (first_tray design.circuit listed))
-    where
-      cut : (p : HasCutPart design listed hub units m) → m < first_memory listed → HasBody design listed hub units m
-      cut p lt = record { body = Cut p.part; is = (lt, p.cut); ascend = p.ascend; timed = p.timed }
-
-      memory : (p : HasCutPart design listed hub units m) → first_memory listed ≤ m → m < first_source listed → HasBody design listed hub units m
-      memory p ge lt = record { body = Memory p.part; is = (ge, lt, p.cut); ascend = p.ascend; timed = λ first high. tt }
-
-      by : (m < first_memory listed) ⊎ (first_memory listed ≤ m) → (m < first_source listed) ⊎ (first_source listed ≤ m) → (m < first_tray design.circuit listed) ⊎ (first_tray design.circuit listed ≤ m) → HasBody design listed hub units m
-      by (inl lt) q r = cut (part (omega (arith, lt))) lt
-      by (inr ge) (inl lt) r = memory (part lt) ge lt
-      by (inr ge) (inr past) (inl lt) = record { body = Source (m - first_source listed); is = (omega (arith, past, lt), omega (arith, past)); ascend = tt; timed = λ first high. tt }
-      by (inr ge) (inr past) (inr end) = record { body = Tray; is = end; ascend = tt; timed = λ first high. tt }
-
 -- ---- what a unit does that shares its host with an earlier one
 
 -- what it does, like that one
-pub record HasLike (design : Ordered) (listed : Listed) (hub : Hub) (clocking : Clocking) (m : ℕ) (leader : Body) : Type 0 where
-  pub body : Body
-  pub is : IsCutBody design listed hub m body
-  pub ascend : HasAscending body
-  pub timed : IsTimedUnit listed clocking m body
-  pub alike : AreAlike leader body
+pub record HasLike (design : Ordered) (listed : Listed) (hub : Hub) (clocking : Clocking) (m : ℕ) (leader : Part) : Type 0 where
+  pub part : Part
+  pub cut : IsCutPart design listed hub m part
+  pub ascend : AllPairs (λ a b. a < b) part.memories
+  pub timed : IsTimed part.piece part.held part.memories clocking.registers clocking.ports
+  pub alike : IsAlike leader.piece part.piece
 
 module _ (design : Ordered) (listed : Listed) (hub : Hub) (is : IsDesign design) (keeps : KeepsToTree design.circuit design.tree) (apart : AreApart design.tree listed) (units : Clocking) (are : AreUnitClocks design listed units)
     (l m : ℕ) (again : IsUnitAgain design listed l m) (routed : IsUnitRouted design listed hub l) (there : IsUnitRouted design listed hub m) (has : HasShare design listed hub m) where
@@ -173,12 +142,5 @@ module _ (design : Ordered) (listed : Listed) (hub : Hub) (is : IsDesign design)
         follows design listed hub units l m leader again routed there cut timed has.globals has.memories own_share ascend design.circuit signals_there givens_there refl refl refl
         keeps apart is.formed are moved_part piece-is refl refl refl refl
 
-    like-cut : HasLike design listed hub units m (Cut leader)
-    like-cut = record { body = Cut moved_part; is = (again.units.3, follower.cut); ascend = follower.ascend; timed = λ first high. follower.timed; alike = follower.alike }
-
-  pub like-body : (leader : Body) → IsCutBody design listed hub l leader → HasAscending leader → IsTimedUnit listed units l leader → HasLike design listed hub units m leader
-  like-body (Cut part) cut ascend timed = like-cut part cut.1 ascend (timed again.units.0 again.units.1)
-  like-body (Memory part) cut ascend timed = absurd (let ge = cut.0 in let lt = again.units.1 in omega (arith, ge, lt))
-  like-body (Source place) cut ascend timed = absurd (let at = cut.1 in let lt = again.units.1 in omega (arith, at, lt))
-  like-body Tray cut ascend timed = absurd (let lt = again.units.1 in omega (arith, cut, lt))
-  like-body (Bridge bridge) cut ascend timed = absurd cut
+    pub like-part : HasLike design listed hub units m leader
+    like-part = record { part = moved_part; cut = follower.cut; ascend = follower.ascend; timed = follower.timed; alike = follower.alike }

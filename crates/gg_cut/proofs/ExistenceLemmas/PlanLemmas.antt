@@ -26,16 +26,14 @@ use Rattle.gg_cut_plan.specs.Seated.{plan_wires}
 use Rattle.gg_cut_plan.proofs.WholeFaultLemmas.{faultless-bridges, faultless-others}
 use Rattle.gg_cut_routes.specs.inside.Routes.{AreRoutes}
 use Rattle.gg_cut_routes.proofs.RoutedLemmas.{plan-routed}
-use Rattle.gg_cut.specs.inside.Made.{AreChannels, IsWired}
-use Rattle.gg_cut_machines.specs.inside.Seats.{ArePlanMachines}
+use Rattle.gg_cut.specs.inside.Made.{AreChannels, AreMachines, IsWired}
 use Rattle.gg_cut.proofs.PlanLemmas.{channels-made, machine-fit}
 use Rattle.gg_cut_machines.proofs.WireLemmas.{given-below, seated-known}
 use Rattle.gg_cut.proofs.ExistenceLemmas.FilledLemmas.{IsFilled, Something, filled}
 use Rattle.gg_cut.proofs.ExistenceLemmas.MachineLemmas.{machines-there}
-use Rattle.gg_cut.proofs.ExistenceLemmas.PlacedLemmas.{placed-there}
 use Rattle.gg_cut.proofs.ExistenceLemmas.ToldLemmas.{HasTable, table-there}
 
-module _ (design : Ordered) (request : Request) (models : Models) (default : ℕ) (is : IsDesign design) (keeps : KeepsToTree design.circuit design.tree) (none : first_fault design request ≡ None) (machines : List Machine) (are : ArePlanMachines design request models (listed_of design.tree request) (plan_hub design.circuit design.tree request) machines) where
+module _ (design : Ordered) (request : Request) (models : Models) (default : ℕ) (is : IsDesign design) (keeps : KeepsToTree design.circuit design.tree) (none : first_fault design request ≡ None) (machines : List Machine) (are : AreMachines design request models (listed_of design.tree request) (plan_hub design.circuit design.tree request) machines) where
   abbrev listed : Listed
   listed = listed_of design.tree request
 
@@ -116,5 +114,5 @@ pub plan-there : (design : Ordered) (request : Request) (models : Models) (defau
 plan-there design request models default is keeps held small faultless =
     let none = faultless-others design models request faultless in
     let fits = faultless-bridges design models request faultless in
-    let placed = placed-there design request models is keeps none fits small (machines-there design request is keeps none held) in
-    plan-of design request models default is keeps none placed.machines placed.are
+    let there = machines-there design request models is keeps held small none fits in
+    plan-of design request models default is keeps none there.machines there.are

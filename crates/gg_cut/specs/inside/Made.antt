@@ -1,7 +1,7 @@
 -- More on Made: what no promise of the program's speaks of.
 -- Source: MEMOCODE 2009 (a network of machines that are latency-insensitive); ICCAD 2019 (instances and memories of a
 -- target as models of their own).
-use Rattle.std.specs.Prelude.{◌≡◌, ◌≢◌, ℕ, ◌<◌, ◌≤◌, List, [], Bool, length, map, slice_index_or, AllPairs, ◌==◌, if◌then◌else◌}
+use Rattle.std.specs.Prelude.{◌≡◌, ◌≢◌, ℕ, ◌<◌, ◌≤◌, ◌^◌, List, [], Bool, length, map, slice_index_or, AllPairs}
 use Rattle.gg_bits.specs.Shape.{shape}
 use Rattle.gg_flat.specs.Line.{value_at, shape_at}
 use Rattle.gg_flat.specs.Circuit.{FlatCircuit, signal_shapes}
@@ -19,15 +19,13 @@ use Rattle.gg_cut_plan.specs.declared.plan.Machine.{Machine}
 use Rattle.gg_cut_plan.specs.declared.plan.Channel.{Channel}
 use Rattle.gg_cut_plan.specs.declared.listed.Listed.{Listed}
 use Rattle.gg_cut_plan.specs.declared.wires.Wire.{Wire}
+use Rattle.gg_cut_plan.specs.Bridges.{Models}
 use Rattle.gg_cut_plan.specs.Direct.{Hub}
-use Rattle.gg_cut_split.specs.declared.share.Share.{Share}
-use Rattle.gg_cut_routes.specs.inside.Share.{IsPlanShare}
 use Rattle.gg_cut_plan.specs.Alike.{AreAlike}
 use Rattle.gg_cut_plan.specs.Hosts.{leader}
 use Rattle.gg_cut_plan.specs.Machines.{first_unit, first_memory}
-use Rattle.gg_cut_plan.specs.inside.Machines.{machine_count}
-use Rattle.gg_cut_plan.specs.Plan.{wire_at, channels_to, channels_from, signals_of, givens_of, IsCutBody, AreNeedsOf, NeedsIn, IsChannel}
-use Rattle.gg_cut_plan.specs.inside.Plan.{IsCutMachine}
+use Rattle.gg_cut_plan.specs.Plan.{wire_at, channels_to, channels_from, signals_of, givens_of, IsBody, IsMachine, AreNeedsOf, NeedsIn, IsChannel}
+use Rattle.gg_cut_plan.specs.Seated.{machine_end, plan_bridges}
 
 -- the memories of a part are ascending
 abbrev pub HasAscending : Body → Type 0
@@ -50,25 +48,26 @@ abbrev pub IsTimedUnit : Listed → Clocking → ℕ → Body → Type 0
 IsTimedUnit listed clocking m body = first_unit ≤ m → m < first_memory listed → IsTimedBody clocking body
 
 -- What machine m does, after the machines before it. If one of them is the first of its host, its part is like that one's.
-pub record IsMadeBody (design : Ordered) (request : Request) (listed : Listed) (hub : Hub) (clocking : Clocking) (machines : List Machine) (m : ℕ) (body : Body) : Type 0 where
-  pub is : IsCutBody design listed hub m body
+pub record IsMadeBody (design : Ordered) (request : Request) (models : Models) (listed : Listed) (hub : Hub) (clocking : Clocking) (machines : List Machine) (m : ℕ) (body : Body) : Type 0 where
+  pub is : IsBody design request models listed hub m body
   pub ascend : HasAscending body
   pub timed : IsTimedUnit listed clocking m body
   pub alike : (any : Machine) → leader request.units request.share m ≢ m → AreAlike (slice_index_or machines (leader request.units request.share m) any).body body
 
 -- the first `count` machines of a plan
-pub record AreMachinesTo (design : Ordered) (request : Request) (listed : Listed) (hub : Hub) (clocking : Clocking) (count : ℕ) (machines : List Machine) : Type 0 where
+pub record AreMachinesTo (design : Ordered) (request : Request) (models : Models) (listed : Listed) (hub : Hub) (clocking : Clocking) (count : ℕ) (machines : List Machine) : Type 0 where
   pub counted : length machines ≡ count
-  pub each : (m : ℕ) (any : Machine) → m < count → IsCutMachine design request listed hub m (slice_index_or machines m any)
+  pub each : (m : ℕ) (any : Machine) → m < count → IsMachine design request models listed hub m (slice_index_or machines m any)
   pub ascend : (m : ℕ) (any : Machine) → m < count → HasAscending (slice_index_or machines m any).body
   pub timed : (m : ℕ) (any : Machine) → m < count → IsTimedUnit listed clocking m (slice_index_or machines m any).body
   pub alike : (m : ℕ) (any other : Machine) → m < count → leader request.units request.share m ≢ m
       → AreAlike (slice_index_or machines (leader request.units request.share m) any).body (slice_index_or machines m other).body
 
 -- the machines of a plan
-pub record AreMachines (design : Ordered) (request : Request) (listed : Listed) (hub : Hub) (machines : List Machine) : Type 0 where
-  pub total : length machines ≡ machine_count design.circuit listed
-  pub each : (m : ℕ) (any : Machine) → m < length machines → IsCutMachine design request listed hub m (slice_index_or machines m any)
+pub record AreMachines (design : Ordered) (request : Request) (models : Models) (listed : Listed) (hub : Hub) (machines : List Machine) : Type 0 where
+  pub total : length machines ≡ machine_end (plan_bridges design.circuit design.tree request)
+  pub few : length machines < 2 ^ 32
+  pub each : (m : ℕ) (any : Machine) → m < length machines → IsMachine design request models listed hub m (slice_index_or machines m any)
   pub shared : (m n : ℕ) (any other : Machine) → m < length machines → n < length machines → m ≢ n → (slice_index_or machines m any).host ≡ (slice_index_or machines n other).host
       → AreAlike (slice_index_or machines m any).body (slice_index_or machines n other).body
 
@@ -138,17 +137,3 @@ pub record AreWired (circuit : FlatCircuit) (capacity : List ℕ → ℕ) (piped
 pub record AreChannels (design : Ordered) (capacity : List ℕ → ℕ) (piped : ℕ → Bool) (wires : List Wire) (machines : List Machine) (channels : List Channel) : Type 0 where
   pub total : length channels ≡ length wires
   pub each : (c : ℕ) (any : Channel) → c < length channels → IsChannel design capacity piped machines (wire_at wires c) (slice_index_or channels c any)
-
--- ---- what machines have
-
--- a machine has its lists of channels; the hub has these signals, any other machine those that it had
-pub record IsRoutedShare (ins outs : List (List ℕ)) (hub : List ℕ) (before : Share) (m : ℕ) (share : Share) : Type 0 where
-  pub takes : share.ins ≡ slice_index_or ins m []
-  pub gives : share.outs ≡ slice_index_or outs m []
-  pub signals : share.globals ≡ (if m == 0 then hub else before.globals)
-  pub banks : share.memories ≡ before.memories
-
--- what the machines of a plan have
-pub record ArePlanShares (design : Ordered) (listed : Listed) (hub : Hub) (shares : List Share) : Type 0 where
-  pub many : length shares ≡ machine_count design.circuit listed
-  pub each : (m : ℕ) (any : Share) → m < machine_count design.circuit listed → IsPlanShare design listed hub m (slice_index_or shares m any).ins (slice_index_or shares m any).outs (slice_index_or shares m any).globals (slice_index_or shares m any).memories

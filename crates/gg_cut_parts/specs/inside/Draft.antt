@@ -12,7 +12,7 @@ use Rattle.gg_cut_plan.specs.Fault.{IsSmall, first_fault}
 use Rattle.gg_bits.specs.Lists.{first_of}
 use Rattle.gg_cut_plan.specs.Held.{AreHeldOnce}
 use Rattle.gg_cut_plan.specs.Listed.{listed_of}
-use Rattle.gg_cut_plan.specs.Machines.{first_unit, first_memory}
+use Rattle.gg_cut_plan.specs.Machines.{first_unit, first_memory, first_source}
 use Rattle.gg_cut_plan.specs.inside.Machines.{machine_count}
 use Rattle.gg_cut_plan.specs.Plan.{IsCutPart}
 use Rattle.gg_cut_split.specs.inside.Apart.{AreApart}
@@ -46,13 +46,13 @@ pub record IsDraft (draft : Draft) : Type 0 where
   pub gone : (s : ℕ) → s < length draft.design.now.circuit.signals → is_marked draft.routed.gone s ≡ is_gone (draft_hub draft) s
   pub sound : AreRoutes draft.design.now draft.listed (draft_hub draft)
 
--- What holds of a machine of a draft: the machine is known, it has this by the routed channels, and the clocks are those that machines
+-- What holds of a machine of a draft: it is the hub, a unit or a listed memory, it has this by the routed channels, and the clocks are those that machines
 -- follow.
 pub record IsMachineDraft (machine : MachineDraft) : Type 0 where
   pub draft : IsDraft machine.draft.now
-  pub known : machine.number < machine_count machine.draft.now.design.now.circuit machine.draft.now.listed
+  pub known : machine.number < first_source machine.draft.now.listed
   pub domains : AreDomains machine.draft.now.design.now machine.draft.now.listed machine.domains.now
-  pub share : IsPlanShare machine.draft.now.design.now machine.draft.now.listed (draft_hub machine.draft.now) machine.number machine.share.now.ins machine.share.now.outs machine.share.now.globals machine.share.now.memories
+  pub share : IsPlanShare machine.draft.now.design.now machine.draft.now.listed (draft_hub machine.draft.now) machine.number machine.ins.now machine.outs.now machine.globals.now machine.memories.now
 
 -- the part of machine m of a draft
 abbrev pub IsDraftPart : Draft → ℕ → Part → Type 0

@@ -1,10 +1,11 @@
 -- A unit worked by hand: the sets of marks after the pass, the needs that they give, and lists that aren't its needs.
-use Rattle.std.proofs.Common.{◌≡◌, ℕ, zero, suc, List, [], ◌∷◌, true, refl, subst, arith, lit<}
-use Rattle.std.specs.Prelude.{Contains, slice_index_or}
+use Rattle.std.proofs.Common.{◌≡◌, ℕ, zero, suc, List, [], ◌∷◌, true, false, true≢false, inr, refl, sym, subst, arith, lit<}
+use Rattle.std.specs.Prelude.{Contains, length, slice_index_or}
 use Rattle.gg_bits.specs.declared.ops.Op2.TheVariants.{Xor}
 use Rattle.gg_flat.specs.declared.line.Op.TheVariants.{Ref, Two}
 use Rattle.gg_flat.specs.Line.{value_at}
-use Rattle.gg_flat.specs.Reads.{Reaches}
+use Rattle.gg_flat.specs.declared.piece.Driver.TheVariants.{MemoryWord}
+use Rattle.gg_flat.specs.Reads.{NamesSignal, Reaches}
 use Rattle.gg_flat.proofs.WorkedForms.{both, same}
 use Rattle.gg_order.specs.Marks.{is_marked}
 use Rattle.gg_order.specs.needs.Needs.{AreNeeds}
@@ -13,8 +14,9 @@ use Rattle.gg_order.specs.inside.Walk.{IsClosed, MarksReached}
 use Rattle.gg_order.proofs.NeedsLemmas.MarkedInLemmas.{AreNeeds-marked, AreMarkedIns-none, AreMarkedIns-skip, AreMarkedIns-push}
 use Rattle.gg_order.proofs.NeedsLemmas.ReachLemmas.{along-reaches}
 use Rattle.gg_order.proofs.NeedsLemmas.WorkedUnits.{unit}
-use Rattle.gg_order.specs.inside.NeedsMarks.{marks_of}
-use Rattle.gg_order.specs.inside.Walk.{AreReached}
+use Rattle.gg_order.specs.inside.NeedsMarks.{marks_of, Adds}
+use Rattle.gg_order.specs.inside.Groups.{IsGroup}
+use Rattle.gg_order.specs.inside.Walk.{AreReached, HandsOn}
 
 -- The inputs `x` and `k` are signals 0 and 1, the outputs `p`, which is `x`, and `q`, which is `xor(x, k)`, signals 2 and 3. Both
 -- outputs reach `x`, `q` alone reaches `k`, and each reaches itself.
@@ -72,6 +74,32 @@ after-pass = record { count = refl; each = λ place lt. both (λ (p : ℕ). Mark
 -- other sets are wrong: `p` doesn't reach `k`
 too-many : ¬ AreReached unit (2 ∷ 3 ∷ []) (3 ∷ 3 ∷ 1 ∷ 2 ∷ [])
 too-many wrong = let is = (p-marks 1).1 ((wrong.each 0 (lit< tt) 1).0 refl) in cc
+
+-- `x` doesn't lack the mark of `p`, which reads it
+too-few : ¬ AreReached unit (2 ∷ 3 ∷ []) (2 ∷ 2 ∷ 1 ∷ 2 ∷ [])
+too-few wrong = true≢false (sym ((wrong.each 0 (lit< tt) 0).1 (record { path = 0 ∷ []; reads = (record { signal = lit< tt; names = (0, lit< tt, refl) }, refl) })))
+
+-- `q` passes its own mark on, and no other
+other-mark : ¬ HandsOn unit 3 (0 ∷ 0 ∷ 0 ∷ 2 ∷ []) (1 ∷ 1 ∷ 0 ∷ 2 ∷ [])
+other-mark hands = true≢false (sym ((hands.each 1).read 0 refl (record { signal = lit< tt; names = (0, lit< tt, refl) })))
+
+-- ---- a set that is added to that of a signal
+
+-- the marks that the signal has stay
+not-lost : ¬ Adds 1 (λ s. 0 ≡ s) (2 ∷ []) (1 ∷ [])
+not-lost adds = let is : (false ∷ []) ≡ (true ∷ []) = adds.kept 1 refl in cc
+
+-- the signal gets those that are added
+not-added : ¬ Adds 1 (λ s. 0 ≡ s) (0 ∷ []) (0 ∷ [])
+not-added adds = true≢false (sym ((adds.given 0 refl).marked 0 refl))
+
+-- so does the enable of a read, and not its address alone
+not-enabled : ¬ Adds 1 (NamesSignal (MemoryWord 0 0 0 1)) (0 ∷ 0 ∷ []) (1 ∷ 0 ∷ [])
+not-enabled adds = true≢false (sym ((adds.given 0 refl).marked 1 (inr refl)))
+
+-- a group has no more out-signals than a set has bits
+not-larger : (outs group : List ℕ) → length group ≡ 129 → ¬ IsGroup outs 0 group
+not-larger outs group many is = absurd (omega (arith, is.most, many))
 
 -- ---- the needs
 

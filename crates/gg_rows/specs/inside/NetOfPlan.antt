@@ -5,12 +5,10 @@ use Rattle.gg_flat.specs.Run.{Start}
 use Rattle.gg_flat.specs.Streams.{Flow}
 use Rattle.gg_cut_plan.specs.Seated.{first_kept_tray, plan_bridges}
 use Rattle.gg_cut_plan.specs.declared.plan.Plan.{Plan}
-use Rattle.gg_cut_reference.specs.Follows.{plan_start}
 use Rattle.gg_net.specs.Kept.{Kept}
 use Rattle.gg_net.specs.Network.{Network, frame_of, AllStandAt}
 use Rattle.gg_cut_reference.specs.whole.Whole.{plan_circuit}
-use Rattle.gg_build.specs.inside.Build.{IsOpeningFrom, IsToRun, run_from_zeros}
-use Rattle.gg_build.specs.Build.{IsOpeningOf, IsToRunFrom, run_token}
+use Rattle.gg_build.specs.Build.{IsOpeningFrom, IsToRunFrom, run_token}
 use Rattle.gg_bits.specs.Limits.{tray_rows}
 use Rattle.gg_rows.specs.Rows.{TraysKeep}
 use Rattle.gg_rows.specs.inside.Rows.{outputs_in}
@@ -24,15 +22,6 @@ OpeningsAreKept =
     → IsOpeningFrom plan start (run_token run) columns n net
     -- So it is kept.
     → Kept flow net
-
--- The network of a plan before its first cycle, with zeros, is one that begins with the start of the whole run.
-abbrev pub ZerosAreAStart : Type 0
-ZerosAreAStart =
-    (plan : Plan) (columns : List (List ℕ)) (n : ℕ) (flow : Flow) (run : IsToRun plan columns n flow) (net : Network)
-    -- The plan is to be run from cycle 0 on, and this is its network before that.
-    → IsOpeningOf plan columns n net
-    -- That cycle with zeros is the start, and the tokens in the pipes are those of the run.
-    → IsOpeningFrom plan (plan_start run.design run.request) (run_token (run_from_zeros run)) columns n net
 
 -- A network of a plan stays one as long as its frame stays.
 abbrev pub NetsStayOfThePlan : Type 0

@@ -3,8 +3,8 @@
 -- cycle k, in whatever order the nodes go on).
 use Rattle.std.specs.Prelude.{◌≡◌, ℕ, ◌+◌, ◌-◌, ◌<◌, ◌≤◌, List, Option, Result, length}
 use Rattle.gg_cut_reference.specs.whole.Whole.{plan_circuit}
-use Rattle.gg_build.specs.inside.Build.{IsOpeningFrom, IsToRun, run_from_zeros}
-use Rattle.gg_build.specs.Build.{IsOpeningOf, IsToRunFrom, run_token}
+use Rattle.gg_build.specs.inside.Build.{FromZeros}
+use Rattle.gg_build.specs.Build.{IsOpeningFrom, IsToRunFrom, run_token}
 use Rattle.gg_bits.specs.Limits.{tray_rows}
 use Rattle.gg_io.specs.inside.Endings.{PrintsOn}
 use Rattle.gg_io.specs.declared.endings.Ending.{Ending}
@@ -82,29 +82,29 @@ RestIsKept flow opening begin first count stops ports =
 -- The text of the run is printed on an output: a header, and the rows.
 abbrev pub PrintsTheRun : {K T : Type 0} → Flow → Ordered → Plan → (columns : List (List ℕ)) → (n : ℕ) → List Port → Sink.Ghosts K → (before after : K) → Result T Ending → Type 0
 PrintsTheRun flow design plan columns n ports sink before after result =
-    -- The plan is one of the design, and is to be run on this flow.
-    (run : IsToRun plan columns n flow) → run.design ≡ design
+    -- The plan is one of the design, and is to be run on this flow from cycle 0 and zeros.
+    (start : Start) (run : IsToRunFrom plan start columns n flow) → FromZeros run → run.design ≡ design
     -- The text has the run of the plan's circuit to cycle n, or to the first cycle in which a stop acts.
     → PrintsOn sink before after (text_of (plan_stops run.design run.request) (plan_circuit run.design run.request run.models) ports run.rows n) result
 
 -- Host steps bring the values of these rows to the trays, and bring no others there.
 abbrev pub RunIsKept : Flow → Ordered → Plan → (columns : List (List ℕ)) → (n : ℕ) → List Port → Type 0
 RunIsKept flow design plan columns n ports =
-    -- The plan is one of the design, and is to be run on this flow.
-    (run : IsToRun plan columns n flow) → run.design ≡ design
+    -- The plan is one of the design, and is to be run on this flow from cycle 0 and zeros.
+    (start : Start) (run : IsToRunFrom plan start columns n flow) → FromZeros run → run.design ≡ design
     -- The rows are as many as the text has, with a column for each out-signal of the plan's circuit.
-    → AreKept plan columns n (first_kept_tray (plan_bridges run.design.circuit run.design.tree run.request))
+    → AreKept run.design run.request plan columns n
     (rows_to (plan_stops run.design run.request) (plan_circuit run.design run.request run.models) ports run.rows n)
     (out_columns (plan_circuit run.design run.request run.models) run.rows)
 
 -- This is the first cycle in which a stop ends a run of `cycles` cycles, if there is one.
 abbrev pub IsFirstStop : Flow → (opening : Network) (first count : ℕ) → List Ratio → (shown cycles : ℕ) → Option ℕ → Type 0
 IsFirstStop flow opening first count stops shown cycles stop =
-    (plan : Plan) (columns : List (List ℕ)) (n : ℕ) (ports : List Port) (run : IsToRun plan columns n flow)
-    -- The network is that of a plan which is to be run on this flow.
-    → IsOpeningOf plan columns n opening
+    (plan : Plan) (start : Start) (columns : List (List ℕ)) (n : ℕ) (ports : List Port) (run : IsToRunFrom plan start columns n flow)
+    -- The network is that of a plan which is to be run on this flow, and begins in cycle 0.
+    → IsOpeningFrom plan start (run_token run) columns n opening → start.cycle ≡ 0
     -- It has so many trays, from number `first` on. The conditions of the stops are behind the first `shown` of their values, and the
     -- stops follow clocks of these ratios.
-    → AreTraysOf (run_from_zeros run) first count → shown ≡ length ports → stops ≡ plan_stops run.design run.request
+    → AreTraysOf run first count → shown ≡ length ports → stops ≡ plan_stops run.design run.request
     -- The cycle is the first of the network's n cycles in which a stop ends the run of the plan's circuit.
     → IsFirst (ends_run (plan_stops run.design run.request) (plan_circuit run.design run.request run.models) ports run.rows cycles) n stop

@@ -2,8 +2,7 @@
 -- Source: ICCAD 2019 (Golden Gate) for target cycles as rows; MEMOCODE 2009 (the k-th token of each queue is the value of its signal in
 -- cycle k, in whatever order the nodes go on).
 use Rattle.std.specs.Prelude.{◌≡◌, ℕ, ◌+◌, ◌-◌, ◌<◌, ◌≤◌, List, Bool, Result}
-use Rattle.gg_build.specs.inside.Build.{IsOpeningFrom}
-use Rattle.gg_build.specs.Build.{IsToRunFrom, run_token}
+use Rattle.gg_build.specs.Build.{IsOpeningFrom, IsToRunFrom, run_token}
 use Rattle.gg_bits.specs.Limits.{tray_rows}
 use Rattle.gg_io.specs.declared.endings.Ending.{Ending}
 use Rattle.gg_cut_plan.specs.Seated.{first_kept_tray, plan_bridges}

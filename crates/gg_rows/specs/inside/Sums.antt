@@ -1,14 +1,14 @@
 -- More on Sums: what no promise of the program's speaks of.
 -- Source: this program's own. MEMOCODE 2009 for steps and their count.
 use Rattle.std.specs.Prelude.{◌≡◌, ℕ, suc, List, ◌++◌, Bool, true, Result, Ok, length, slice_index}
-use Rattle.gg_build.specs.Build.{IsOpeningOf}
-use Rattle.gg_build.specs.inside.Build.{IsToRun}
+use Rattle.gg_build.specs.Build.{IsOpeningFrom, IsToRunFrom, run_token}
 use Rattle.gg_cut_plan.specs.declared.plan.Plan.{Plan}
 use Rattle.gg_rows.specs.inside.Folded.{IsFolded}
 use Rattle.gg_rows.specs.SummaryText.{fold_line, last_line, network_line, size_line}
 use Rattle.gg_rows.specs.declared.fold.Fold.{Fold}
 use Rattle.gg_flat.specs.Circuit.{FlatCircuit}
 use Rattle.gg_flat.specs.Line.{value_at}
+use Rattle.gg_flat.specs.Run.{Start}
 use Rattle.gg_flat.specs.Streams.{Flow}
 use Rattle.gg_measure.specs.inside.Nets.{net_left}
 use Rattle.gg_net.specs.Kept.{Kept}
@@ -27,10 +27,10 @@ pub record FoldsRow (before : Fold) (cycle : ℕ) (row : List ℕ) (after : Fold
   pub goes : answer ≡ Ok true
   pub adds : (ys zs : List ℕ) (n : ℕ) → IsFolded ys zs n before → value_at row 0 ≡ slice_index ys n → value_at row 1 ≡ slice_index zs n → IsFolded ys zs (suc n) after
 
--- The sums are those of the plan's network before its first cycle, and of the rows of the reference circuit's run.
-pub record AreSums (plan : Plan) (columns : List (List ℕ)) (n : ℕ) (flow : Flow) (run : IsToRun plan columns n flow) (sums : Sums) : Type 0 where
+-- The sums are those of the plan's network before its first step, and of the rows of the reference circuit's run.
+pub record AreSums {plan : Plan} {start : Start} {columns : List (List ℕ)} {n : ℕ} {flow : Flow} (run : IsToRunFrom plan start columns n flow) (sums : Sums) : Type 0 where
   pub net : Network
-  pub opens : IsOpeningOf plan columns n net
+  pub opens : IsOpeningFrom plan start (run_token run) columns n net
   pub kept : Kept flow net
   pub machines : sums.machines ≡ length net.machines
   pub channels : sums.channels ≡ length net.wires

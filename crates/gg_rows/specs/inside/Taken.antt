@@ -6,6 +6,7 @@ use Rattle.gg_net.specs.Network.{Network, frame_of}
 use Rattle.gg_io.specs.declared.endings.Ending.{Ending}
 use Rattle.gg_io.specs.declared.endings.Ending.TheVariants.{NoMemory}
 use Rattle.gg_rows.specs.Rows.{TraysKeep}
+use Rattle.gg_rows.specs.inside.Window.{IsWindowOf}
 
 -- The first n rows from that of cycle `begin` on were taken, and after each of them it was to go on. `takes` tells what the taking of a row
 -- does: the value before, the cycle, the row, the value after, and the answer.
@@ -23,6 +24,11 @@ pub data Took {T : Type 0} (takes : T → ℕ → List ℕ → T → Result Bool
   Fails : (t : ℕ) (within : t < n) (middle : T) (took : TookTo takes row begin before t middle) (ending : Ending) (fails : takes middle (begin + t) (row (begin + t)) after (Err ending)) (counts : count ≡ t) (ends : result ≡ Err ending) → Took takes row begin n count before after result
   -- there was no memory for the row of the next cycle
   Wants : (within : count ≤ n) (took : TookTo takes row begin before count after) (ends : result ≡ Err NoMemory) → Took takes row begin n count before after result
+
+-- A row of this cycle was taken so, or couldn't be taken.
+pub record TakesAt {T : Type 0} (takes : T → ℕ → List ℕ → T → Result Bool Ending → Type 0) (cycle : ℕ) (before after : T) (answer : Result Bool Ending) : Type 0 where
+  pub row : List ℕ
+  pub took : takes before cycle row after answer
 
 -- A row was taken so, or couldn't be taken, whichever it was.
 pub record TakesSome {T : Type 0} (takes : T → ℕ → List ℕ → T → Result Bool Ending → Type 0) (before after : T) (answer : Result Bool Ending) : Type 0 where
@@ -52,7 +58,26 @@ abbrev pub answer_of : {N : Type 0} → Result (N × Bool) Ending → Result Boo
 answer_of (Ok ran) = Ok ran.1
 answer_of (Err ending) = Err ending
 
--- The network that a run gave back: if all rows were taken, all machines stand at the end.
-pub record IsRanOut (old new : Network) (all : Bool) : Type 0 where
+-- The row of a cycle from `begun` on and before `upto` was taken last, and after it it wasn't to go on.
+pub record IsLastOf {T : Type 0} (takes : T → ℕ → List ℕ → T → Result Bool Ending → Type 0) (begun upto : ℕ) (after : T) : Type 0 where
+  pub cycle : ℕ
+  pub low : begun ≤ cycle
+  pub high : cycle < upto
+  pub before : T
+  pub last : TakesAt takes cycle before after (Ok false)
+
+-- A run from cycle `begin` on stopped at the row of a cycle, and all machines stand where the window of this cycle ends.
+pub record StopsIn {T : Type 0} (takes : T → ℕ → List ℕ → T → Result Bool Ending → Type 0) (begin end : ℕ) (net : Network) (after : T) : Type 0 where
+  pub cycle : ℕ
+  pub before : T
+  pub last : TakesAt takes cycle before after (Ok false)
+  pub upto : ℕ
+  pub window : IsWindowOf begin end cycle upto
+  pub stands : AllStandAt upto net
+
+-- The network that a run from cycle `begin` on gave back: if all rows were taken, all machines stand at the end. Otherwise they stand where the
+-- window of the last row ends.
+pub record IsRanOut {T : Type 0} (takes : T → ℕ → List ℕ → T → Result Bool Ending → Type 0) (begin : ℕ) (old new : Network) (after : T) (all : Bool) : Type 0 where
   pub frame : frame_of new ≡ frame_of old
   pub stands : all ≡ true → AllStandAt old.end new
+  pub stopped : all ≡ false → StopsIn takes begin old.end new after

@@ -17,8 +17,7 @@ use Rattle.gg_cut_plan.specs.declared.plan.Plan.{Plan}
 use Rattle.gg_cut_reference.specs.Made.{AllHeld, IsFresh, plan_reference}
 use Rattle.gg_net.specs.Kept.{Kept}
 use Rattle.gg_net.specs.Network.{Network}
-use Rattle.gg_build.specs.inside.Build.{IsOpeningFrom}
-use Rattle.gg_build.specs.Build.{IsToRunFrom, run_token}
+use Rattle.gg_build.specs.Build.{IsOpeningFrom, IsToRunFrom, run_token}
 use Rattle.gg_build.specs.StandsAt.{StandsAt}
 use Rattle.gg_snap.specs.text.Known.{CanSave}
 use Rattle.gg_snap.specs.inside.TextWhole.{IsWhole}

@@ -1,7 +1,7 @@
 -- More on Pass: what no promise of the program's speaks of.
 -- Source: MEMOCODE 2009 (a node takes its tokens, gives its tokens and then finishes its cycle, as its latches and flags
 -- allow). Which events a pass tries, and in which order, is this program's own.
-use Rattle.std.specs.Prelude.{◌≡◌, ℕ, ◌+◌, ◌*◌, ◌<◌, List, None, false, length, slice_index_or}
+use Rattle.std.specs.Prelude.{◌≡◌, ℕ, ◌+◌, ◌*◌, ◌<◌, ◌≤◌, List, None, true, false, length, slice_index_or}
 use Rattle.gg_flat.specs.Line.{value_at}
 use Rattle.gg_flat.specs.Streams.{Flow}
 use Rattle.gg_link.specs.Seats.{SeatState}
@@ -12,6 +12,7 @@ use Rattle.gg_net.specs.Kept.{MachineAt}
 use Rattle.gg_net.specs.inside.Parted.{takes_by, enters_by}
 use Rattle.gg_net.specs.declared.event.Event.TheVariants.{Latch, Fire, Serve, Finish}
 use Rattle.gg_net.specs.Step.{Ready}
+use Rattle.gg_workers_pass.specs.declared.choice.Chosen.{Chosen}
 use Rattle.gg_workers_pass.specs.declared.machine_seats.MachineSeats.{MachineSeats}
 use Rattle.gg_workers_pass.specs.Tries.{StandsBelow}
 use Rattle.gg_workers_pass.specs.inside.Tries.{ServeIsDue, FinishIsDue}
@@ -62,6 +63,13 @@ module _ {S T : Type 0} (taking : S → SeatState) (putting : T → SeatState) w
     pub serve : (p : ℕ) → StandsBelow upto x → ServeIsDue x p → serves_by x < serves_by y
     pub finish : StandsBelow upto x → FinishIsDue x → x.cycle < y.cycle
 
+  -- The same of the chosen events.
+  pub record ChosenDone (frame : Frame) (upto : ℕ) (chosen : Chosen) (ins outs : List ℕ) (x : Machine) (take_seats : List S) (put_seats : List T) (y : Machine) : Type 0 where
+    pub latch : (k : ℕ) (s : S) → chosen.first_in ≤ k → k < chosen.past_in → k < length ins → StandsBelow upto x → latch_at x.latches k ≡ None → (taking (slice_index_or take_seats k s)).count < (taking (slice_index_or take_seats k s)).seen → takes_by frame x (value_at ins k) < takes_by frame y (value_at ins k)
+    pub fire : (k : ℕ) (s : T) → chosen.first_out ≤ k → k < chosen.past_out → k < length outs → StandsBelow upto x → flag_at x.flags k ≡ false → missing x k ≡ None → (putting (slice_index_or put_seats k s)).count < (putting (slice_index_or put_seats k s)).seen + (putting (slice_index_or put_seats k s)).capacity → puts_by frame x (value_at outs k) < puts_by frame y (value_at outs k)
+    pub serve : (p : ℕ) → chosen.serves ≡ true → StandsBelow upto x → ServeIsDue x p → serves_by x < serves_by y
+    pub finish : chosen.finishes ≡ true → StandsBelow upto x → FinishIsDue x → x.cycle < y.cycle
+
 -- Each event of machine m that could be done in the network was done, if the machine was below `upto` there. It is y.
 pub record EventsDone (net : Network) (m upto : ℕ) (y : Machine) : Type 0 where
   pub latch : (c : ℕ) → Ready net (Latch c) → (wire_at net.wires c).consumer ≡ m → StandsBelow upto (machine_at net.machines m) → takes net c < takes_by (frame_of net) y c
@@ -88,3 +96,7 @@ module _ {S T : Type 0} (taking : S → SeatState) (putting : T → SeatState) w
       HasNewSeats taking putting net machine_seats.machine station.ins station.outs (machine_at old station.thread) machine_seats.takes.items machine_seats.puts.items
       -- Each of its events that could be done in the network was done.
       → EventsDone net machine_seats.machine upto (machine_at new station.thread)
+
+  -- the same of the chosen events
+  abbrev pub ChosenDoneAt : Frame → ℕ → Chosen → Station → List Machine → MachineSeats S T → List Machine → Type 0
+  ChosenDoneAt frame upto chosen station old machine_seats new = ChosenDone taking putting frame upto chosen station.ins station.outs (machine_at old station.thread) machine_seats.takes.items machine_seats.puts.items (machine_at new station.thread)

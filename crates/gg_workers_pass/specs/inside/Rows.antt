@@ -22,14 +22,14 @@ pub record SeatsByPlace {X S : Type 0} (of : X → S → Type 0) (part : S → S
 abbrev pub with_latches : Machine → List (Option ℕ) → Machine
 with_latches x latches = record x { latches = latches }
 
--- The first n ins of machine m were tried.
-pub record LatchesTried {X S : Type 0} (of : X → S → Type 0) (part : S → SeatState) (flow : Flow) (net : Network) (m : ℕ) (links : List X) (ins : List ℕ) (n : ℕ) (x : Machine) (old : List S) (y : Machine) (new : List S) : Type 0 where
+-- The ins of machine m from place `first` to before n were tried.
+pub record LatchesTried {X S : Type 0} (of : X → S → Type 0) (part : S → SeatState) (flow : Flow) (net : Network) (m : ℕ) (links : List X) (ins : List ℕ) (first n : ℕ) (x : Machine) (old : List S) (y : Machine) (new : List S) : Type 0 where
   pub machine : MachineAt flow (frame_of net) m y
   pub placed : SeatsByPlace of part flow net (takes_by (frame_of net) y) links ins new
   pub same : y ≡ with_latches x y.latches
   pub grows : (i : ℕ) → IsSome (latch_at x.latches i) → IsSome (latch_at y.latches i)
   pub no_less : (k : ℕ) (s : S) → k < length ins → (part (slice_index_or old k s)).count ≤ (part (slice_index_or new k s)).count
-  pub done : (k : ℕ) (s : S) → k < n → k < length ins → latch_at x.latches k ≡ None → (part (slice_index_or old k s)).count < (part (slice_index_or old k s)).seen → (part (slice_index_or old k s)).count < (part (slice_index_or new k s)).count
+  pub done : (k : ℕ) (s : S) → first ≤ k → k < n → k < length ins → latch_at x.latches k ≡ None → (part (slice_index_or old k s)).count < (part (slice_index_or old k s)).seen → (part (slice_index_or old k s)).count < (part (slice_index_or new k s)).count
   pub untried : (k : ℕ) (s : S) → n ≤ k → (slice_index_or new k s ≡ slice_index_or old k s) × (latch_at y.latches k ≡ latch_at x.latches k)
 
 -- these are the channels at the ins of machine m, by place
@@ -41,14 +41,14 @@ pub record AreIns (net : Network) (m : ℕ) (x : Machine) (ins : List ℕ) : Typ
 abbrev pub with_flags : Machine → List Bool → Machine
 with_flags x flags = record x { flags = flags }
 
--- The first n outs of machine m were tried.
-pub record FiresTried {X S : Type 0} (of : X → S → Type 0) (part : S → SeatState) (flow : Flow) (net : Network) (m : ℕ) (links : List X) (outs : List ℕ) (n : ℕ) (x : Machine) (old : List S) (y : Machine) (new : List S) : Type 0 where
+-- The outs of machine m from place `first` to before n were tried.
+pub record FiresTried {X S : Type 0} (of : X → S → Type 0) (part : S → SeatState) (flow : Flow) (net : Network) (m : ℕ) (links : List X) (outs : List ℕ) (first n : ℕ) (x : Machine) (old : List S) (y : Machine) (new : List S) : Type 0 where
   pub machine : MachineAt flow (frame_of net) m y
   pub placed : SeatsByPlace of part flow net (enters_by (frame_of net) y) links outs new
   pub same : y ≡ with_flags x y.flags
   pub grows : (o : ℕ) → flag_at x.flags o ≡ true → flag_at y.flags o ≡ true
   pub no_less : (k : ℕ) (s : S) → k < length outs → (part (slice_index_or old k s)).count ≤ (part (slice_index_or new k s)).count
-  pub done : (k : ℕ) (s : S) → k < n → k < length outs → flag_at x.flags k ≡ false → missing x k ≡ None → (part (slice_index_or old k s)).count < (part (slice_index_or old k s)).seen + (part (slice_index_or old k s)).capacity → (part (slice_index_or old k s)).count < (part (slice_index_or new k s)).count
+  pub done : (k : ℕ) (s : S) → first ≤ k → k < n → k < length outs → flag_at x.flags k ≡ false → missing x k ≡ None → (part (slice_index_or old k s)).count < (part (slice_index_or old k s)).seen + (part (slice_index_or old k s)).capacity → (part (slice_index_or old k s)).count < (part (slice_index_or new k s)).count
   pub untried : (k : ℕ) (s : S) → n ≤ k → (slice_index_or new k s ≡ slice_index_or old k s) × (flag_at y.flags k ≡ flag_at x.flags k)
 
 -- these are the channels at the outs of machine m, by place

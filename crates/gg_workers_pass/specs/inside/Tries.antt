@@ -102,3 +102,8 @@ pub record HasNotFinished (old : List Machine) (thread : ℕ) (new : List Machin
 abbrev pub FinishTried : List Machine → ℕ → List Machine → Bool → Type 0
 FinishTried old thread new true = HasFinished old thread new
 FinishTried old thread new false = HasNotFinished old thread new
+
+-- what was done by whether the end of a cycle was to be tried, and by whether it was done
+abbrev pub FinishTriedIf : Bool → List Machine → ℕ → List Machine → Bool → Type 0
+FinishTriedIf true old thread new done = FinishTried old thread new done
+FinishTriedIf false old thread new done = (done ≡ false) × (new ≡ old)

@@ -3,7 +3,6 @@
 use Rattle.std.specs.Prelude.{ℕ, IfOk, List, Result}
 use Rattle.gg_cut_reference.specs.whole.Whole.{plan_circuit}
 use Rattle.gg_cut_plan.specs.Bridges.{Models}
-use Rattle.gg_cut_plan.specs.Seated.{first_kept_tray, plan_bridges}
 use Rattle.gg_io.specs.Told.{Told}
 use Rattle.gg_io.specs.declared.output.Sink
 use Rattle.gg_rows.specs.Printed.{AreKept}
@@ -37,8 +36,7 @@ PrintsFed models sink out out' fed result =
 
 -- host steps bring so many rows of these columns to the trays of the plan's network
 abbrev pub AreFedToTrays : Fed → (told : ℕ) → (kept : List (List ℕ)) → Type 0
-AreFedToTrays fed told kept =
-    AreKept fed.case.cut.plan fed.trace.columns fed.trace.rows (first_kept_tray (plan_bridges fed.case.design.circuit fed.case.design.tree fed.case.cut.request)) told kept
+AreFedToTrays fed told kept = AreKept fed.case.design fed.case.cut.request fed.case.cut.plan fed.trace.columns fed.trace.rows told kept
 
 -- The same from the network of the plan. If the whole text was printed, host steps bring its rows, and the conditions of the stops, to
 -- the trays.

@@ -7,7 +7,6 @@ use Rattle.gg_flat.specs.Run.{state_at}
 use Rattle.gg_flat.specs.State.{State}
 use Rattle.gg_flat.specs.Streams.{Flow}
 use Rattle.gg_order.specs.Design.{Ordered}
-use Rattle.gg_cut_reference.specs.Follows.{plan_start}
 use Rattle.gg_cut_reference.specs.Made.{plan_reference}
 use Rattle.gg_build.specs.plan.Built.{flow_of}
 use Rattle.gg_build.specs.Build.{circuit_order}
@@ -22,8 +21,8 @@ use Rattle.gg_snap.specs.text.Table.{rows_of}
 use Rattle.gg_snap.specs.declared.text.fault.SnapFault.TheVariants.{S1}
 use Rattle.gg_io.specs.Said.{Said}
 use Rattle.golden_commands.specs.Lines.{few_rows, snap_fault}
-use Rattle.golden_commands.specs.Meant.{Meant}
-use Rattle.golden_commands.specs.inside.Replayed.{IsToReplay}
+use Rattle.golden_commands.specs.Meaning.{Meaning}
+use Rattle.golden_commands.specs.inside.Replayed.{IsToReplay, fed_start}
 use Rattle.golden_commands.specs.Resumed.{start_at}
 use Rattle.golden_commands.specs.RunText.{shown_ports}
 use Rattle.golden_commands.specs.declared.case.Fed.{Fed}
@@ -31,7 +30,7 @@ use Rattle.golden_commands.specs.declared.case.Fed.{Fed}
 -- ---- what was read
 
 -- the design, the request and the columns that were read
-abbrev pub meant_by : Fed → Meant
+abbrev pub meant_by : Fed → Meaning
 meant_by fed = record { design = fed.case.design; request = fed.case.cut.request; cycles = fed.trace.rows; columns = fed.trace.columns }
 
 -- the same, with the first rows of the trace alone
@@ -49,19 +48,20 @@ pub record IsUpto (whole : Fed) (at : ℕ) (fed : Fed) : Type 0 where
 -- ---- `save`
 
 -- this is the first cycle in which a stop ends a run of `cycles` cycles, of which the first ones are run
-abbrev pub FindsStop : (fed : Fed) {flow : Flow} (run : IsToReplay fed flow) (cycles : ℕ) → Option ℕ → Type 0
-FindsStop fed run cycles stop = IsFirst (ends_run (plan_stops run.design run.request) (plan_circuit run.design run.request run.models) (shown_ports run.design run.request) run.rows cycles) fed.trace.rows stop
+abbrev pub FindsStop : (fed : Fed) {flow : Flow} (replay : IsToReplay fed flow) (cycles : ℕ) → Option ℕ → Type 0
+FindsStop fed replay cycles stop =
+    IsFirst (ends_run (plan_stops replay.run.design replay.run.request) (plan_circuit replay.run.design replay.run.request replay.run.models) (shown_ports replay.run.design replay.run.request) replay.run.rows cycles) fed.trace.rows stop
 
 -- the text of the snapshot of the reference circuit after the cycles that are run; the request asks for no bridge
-abbrev pub text_after : (fed : Fed) {flow : Flow} (run : IsToReplay fed flow) → List ℕ
-text_after fed run =
-    snap_text (rows_of (plan_reference run.design run.request) run.design.tree) fed.trace.rows
-    (state_at (plan_reference run.design run.request) (plan_start run.design run.request) run.rows fed.trace.rows)
+abbrev pub text_after : (fed : Fed) {flow : Flow} (replay : IsToReplay fed flow) → List ℕ
+text_after fed replay =
+    snap_text (rows_of (plan_reference replay.run.design replay.run.request) replay.run.design.tree) fed.trace.rows
+    (state_at (plan_reference replay.run.design replay.run.request) (fed_start fed) replay.run.rows fed.trace.rows)
 
 -- This is reported, since a run of `cycles` cycles doesn't come to cycle `at`: a stop ends it, or it has too few cycles.
-pub data TellsEarly (fed : Fed) {flow : Flow} (run : IsToReplay fed flow) (cycles at : ℕ) (said : Said) : Type 0 where
-  Halted : (stop : ℕ) (first : FindsStop fed run cycles (Some stop)) (is : said ≡ few_rows at stop) → TellsEarly fed run cycles at said
-  Short : (none : FindsStop fed run cycles None) (few : cycles < at) (is : said ≡ few_rows at cycles) → TellsEarly fed run cycles at said
+pub data TellsEarly (fed : Fed) {flow : Flow} (replay : IsToReplay fed flow) (cycles at : ℕ) (said : Said) : Type 0 where
+  Halted : (stop : ℕ) (first : FindsStop fed replay cycles (Some stop)) (is : said ≡ few_rows at stop) → TellsEarly fed replay cycles at said
+  Short : (none : FindsStop fed replay cycles None) (few : cycles < at) (is : said ≡ few_rows at cycles) → TellsEarly fed replay cycles at said
 
 -- ---- `resume`
 

@@ -1,13 +1,13 @@
 -- The network of a plan without pipes can be built from any start. The run from there is computed along an order.
 use Rattle.std.proofs.Common.{◌≡◌, ℕ, zero, suc, ◌<◌, ◌≤◌, ◌+◌, ◌++◌, List, [], Some, drop, length, replicate, refl, sym, ◌∙◌, ap, subst, true≢false, arith}
-use Rattle.std.specs.Prelude.{unwrap_or}
+use Rattle.std.specs.Prelude.{Option, unwrap_or}
 use Rattle.gg_bits.specs.Limits.{capacity_limit, cycle_limit}
 use Rattle.gg_flat.specs.Along.{rows_from}
 use Rattle.gg_flat.specs.Circuit.{FlatCircuit}
 use Rattle.gg_flat.specs.Line.{value_at}
 use Rattle.gg_flat.specs.Order.{IsOrder}
 use Rattle.gg_flat.specs.Run.{IsColumns, IsRunFrom, Start, later, row_at, since}
-use Rattle.gg_flat.specs.State.{IsState, State}
+use Rattle.gg_flat.specs.State.{IsState, State, opening}
 use Rattle.gg_flat.specs.Streams.{Flow}
 use Rattle.gg_order.proofs.RunsLemmas.AlongLemmas.{IsRunFrom-along}
 use Rattle.gg_flat.proofs.OrderLemmas.{IsLoop-none}
@@ -130,20 +130,23 @@ module _ (design : Ordered) (request : Request) (models : Models) (default : ℕ
   pub to-begin : IsToBegin plan begin columns n (begun_flow design request models plan begin columns n)
   to-begin =
       record {
-        design = design;
-        request = request;
-        models = models;
-        default = default;
         start = start_of plan begin;
-        rows = begun_rows design request models plan begin columns n;
-        given = begun-given;
-        room = room;
+        run =
+            record {
+              design = design;
+              request = request;
+              models = models;
+              default = default;
+              rows = begun_rows design request models plan begin columns n;
+              given = begun-given;
+              room = room;
+              flow_is = refl;
+            };
         begins =
             record {
               cycle = refl;
-              state = state_is ∙ ap Some (sym (ap (λ o. unwrap_or o no_state) state_is));
+              state = ap (λ (told : Option State). unwrap_or told no_state) state_is ∙ sym (ap (λ (told : Option State). unwrap_or told (opening (plan_reference design request))) state_is);
               tokens = no-tokens (plan_token design request (start_of plan begin).state);
               ratios = refl;
             };
-        flow_is = refl;
       }

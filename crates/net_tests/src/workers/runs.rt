@@ -18,7 +18,7 @@ use gg_cut::cut;
 use gg_cut_plan::{Models, Plan};
 use gg_io::Gate;
 use gg_link::Link;
-use gg_measure::{left, run_to, run_to_end};
+use gg_measure::{Order, left, run_by, run_to_end};
 use gg_net::{Net, Streams};
 use gg_order::Design;
 use gg_partfile::Request;
@@ -28,7 +28,8 @@ use std::alloc::Global;
 use std::marker::Brand;
 use std::thread::Threads;
 
-// A run by workers, and what is expected of it: the cycle to which the network is brought before the run, the workers, the cycle up to
+// A run by workers, and what is expected of it: the cycle to which the network is brought before the run, by an order that the workers then
+// go by and that is empty for cycle 0, the workers, the cycle up to
 // which they step its machines, and how many steps are left after it, at least and at most.
 pub(crate) type Row = (u64, u32, u64, u64, u64);
 
@@ -44,11 +45,16 @@ pub(crate) fn row_of(line: &str) -> Option<Row> {
     ))
 }
 
-// Brings a network to a cycle, if that lies before it.
-fn bring<Z: Streams>(net: &mut Net<Node<'_, Echo>, Z>, cycle: u64) {
+// Brings a network to a cycle, if that lies before it. Returns the order that was noted on the way; it is empty if the network was there.
+fn bring<Z: Streams>(alloc: Global, net: &mut Net<Node<'_, Echo>, Z>, cycle: u64) -> Order {
+    let mut order = match Order::new(alloc, net) {
+        Ok(order) => order,
+        Err(_) => Order::none(alloc),
+    };
     if cycle <= net.end() && is_at_most(net, cycle) {
-        run_to(net, cycle);
+        run_by(net, &mut order, cycle);
     }
+    order
 }
 
 // Whether a network is as expected after a run, and at its end.
@@ -92,13 +98,14 @@ fn goes_beside<R: Threads + Sync, L: Link, Z: Streams, G: Gate + Sync>(
     home: L::Home,
     alloc: Global,
     net: Net<OptionalNode<'_>, Z>,
+    order: &Order,
     case: &str,
     row: Row,
     gate: &G,
 ) -> bool {
     let (_, workers, upto, _, _) = row;
     let workers = workers.min(64);
-    match work::<R, OptionalNode<'_>, L, Z, G>(rt, home, alloc, net, workers, upto, gate) {
+    match work::<R, OptionalNode<'_>, L, Z, G>(rt, home, alloc, net, workers, upto, order, gate) {
         Ok(mut net) => ends_beside(&mut net, case, row),
         Err(_) => false,
     }
@@ -115,15 +122,15 @@ fn goes<R: Threads + Sync, L: Link, Z: Streams, G: Gate + Sync>(
     gate: &G,
 ) -> bool {
     let (begin, workers, upto, _, _) = row;
-    bring(&mut net, begin);
+    let order = bring(alloc, &mut net, begin);
     if !field(case, "beside ").is_empty() {
         return match beside_none::<Z>(alloc, net) {
-            Ok(net) => goes_beside::<R, L, Z, G>(rt, home, alloc, net, case, row, gate),
+            Ok(net) => goes_beside::<R, L, Z, G>(rt, home, alloc, net, &order, case, row, gate),
             Err(_) => false,
         };
     }
     let workers = workers.min(64);
-    match work::<R, Node<'_, Echo>, L, Z, G>(rt, home, alloc, net, workers, upto, gate) {
+    match work::<R, Node<'_, Echo>, L, Z, G>(rt, home, alloc, net, workers, upto, &order, gate) {
         Ok(mut net) => ends(&mut net, case, row),
         Err(_) => false,
     }

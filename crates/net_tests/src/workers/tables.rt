@@ -19,12 +19,15 @@ run 0 0 2 42 42
 run 0 1 2 0 0
 run 0 1 1 21 21
 run 1 1 18446744073709551615 0 0
+run 1 1 1 21 21
 # a cycle that all machines have done, or are in
 run 1 2 0 21 21
 run 1 2 1 21 21
-# fewer workers than hosts, and more
+# fewer workers than hosts, and more; with an order and without one
 run 0 2 2 0 41
 run 0 64 2 0 41
+run 1 2 2 0 20
+run 1 64 2 0 20
 
 # a memory that is served, by one worker and by three
 circuit four_ports
@@ -61,6 +64,7 @@ on {"units":["a","b"],"direct":true}
 keeps 11 83
 run 0 0 2 26 26
 run 0 2 2 0 25
+run 1 2 2 0 12
 
 # an input that goes to the hub and to a unit, which shares its host with another
 circuit sums
@@ -69,6 +73,7 @@ on {"units":["u","v"],"share":[["u","v"]],"direct":true}
 keeps 0 fe ed
 run 0 0 3 48 48
 run 0 2 3 0 47
+run 1 2 3 0 31
 
 # a unit that gives its sum to two others and to an output: the three on one host
 circuit fork
@@ -77,6 +82,7 @@ on {"units":["u","v","w"],"share":[["u","v","w"]],"direct":true}
 keeps 0 0 101 1212
 run 0 0 4 96 96
 run 0 2 4 0 95
+run 1 2 4 0 71
 
 # the same on three hosts
 circuit fork

@@ -10,9 +10,9 @@ use Rattle.gg_build.specs.inside.Begin.{starts_of}
 use Rattle.gg_build.specs.inside.Groups.{group_at}
 use Rattle.gg_build.specs.inside.Node.{machines_of}
 use Rattle.gg_build.specs.inside.Bridges.{HasOwn}
-use Rattle.gg_build.specs.inside.Hosts.{CanBuildAll, IsGroup, AreHosts, AreStations, AreAllApart, HaveBridges, HasPorts, HaveNames, body_at}
+use Rattle.gg_build.specs.inside.Hosts.{CanBuildAll, IsGroup, AreHosts, AreOwnHosts, AreStations, AreAllApart, HaveBridges, HasPorts, HaveNames, body_at}
 use Rattle.gg_build.proofs.BridgeLemmas.{bridge-told}
-use Rattle.gg_build.proofs.PlacementLemmas.{bridges-apart, bridges-there, group-can, host-known, placement-are, thread-there}
+use Rattle.gg_build.proofs.PlacementLemmas.{bridges-apart, bridges-there, group-can, host-known, own-hosts, placement-are, thread-there}
 use Rattle.gg_build.proofs.placement.placement_of.Goals as goal
 
 pub hosts_of-requires-clause-groups : goal.hosts_of-requires-clause-groups
@@ -27,8 +27,8 @@ hosts_of-requires-clause-groups g c =
     (subst (λ l. (h : ℕ) → h < length l → IsGroup starts columns machines (group_at (map (λ list. list.items) l) h)) (sym c.deref.ensures.value)
     (λ h lt. group-can starts columns machines groups.hosts.items groups.threads.items members can c.in_ok-groups.ensures h (omega (arith, lt, length-map groups.members.items (λ list. list.items)))))
 
-pub returns : goal.returns
-returns g c =
+pub returns-clause-placed : goal.returns-clause-placed
+returns-clause-placed g c =
     let machines = c.as_slice-machines.result.now in
     let columns = c.args.trace.now.columns in
     let starts = starts_of c.args.plan.now.ratios c.args.begin.now in
@@ -42,7 +42,7 @@ returns g c =
     let are : AreHosts starts columns machines members (length members) nodes =
     subst (λ (rs : List Ratio). AreHosts (starts_of rs c.args.begin.now) columns machines members (length members) nodes) c.as_slice.ensures
     (subst (λ k. AreHosts (starts_of c.as_slice.result.now c.args.begin.now) columns machines members k nodes) (sym (length-map groups.members.items (λ list. list.items)))
-    (subst (λ l. AreHosts (starts_of c.as_slice.result.now c.args.begin.now) columns machines (map (λ list. list.items) l) (length l) nodes) c.deref.ensures.value c.in_ok-hosts.ensures))
+    (subst (λ l. AreHosts (starts_of c.as_slice.result.now c.args.begin.now) columns machines (map (λ list. list.items) l) (length l) nodes) c.deref.ensures.value c.in_ok-hosts.ensures.hosts))
     in
     let stand : AreStations machines hosts threads nodes (length machines) stations =
     subst (λ (hs : List ℕ). AreStations machines hs threads nodes (length machines) stations) c.deref-2.ensures.value
@@ -50,6 +50,34 @@ returns g c =
     (subst (λ (ns : List (Node _)). AreStations machines c.deref-2.result.now c.deref-3.result.now ns (length machines) stations) c.deref-4.ensures.value c.in_ok-stations.ensures))
     in
     placement-are starts columns machines hosts threads members can c.in_ok-groups.ensures nodes are stations stand c.args.plan.now c.as_slice-machines.ensures
+
+pub returns-clause-own : goal.returns-clause-own
+returns-clause-own g c =
+    let machines = c.as_slice-machines.result.now in
+    let columns = c.args.trace.now.columns in
+    let starts = starts_of c.args.plan.now.ratios c.args.begin.now in
+    let groups = c.in_ok-groups.groups in
+    let hosts = groups.hosts.items in
+    let threads = groups.threads.items in
+    let members = map (λ list. list.items) groups.members.items in
+    let can = subst (CanBuildAll starts columns) (sym c.as_slice-machines.ensures) c.requires.ready in
+    let nodes = c.in_ok-hosts.hosts.items in
+    let stations = c.in_ok-stations.stations.items in
+    let are : AreHosts starts columns machines members (length members) nodes =
+    subst (λ (rs : List Ratio). AreHosts (starts_of rs c.args.begin.now) columns machines members (length members) nodes) c.as_slice.ensures
+    (subst (λ k. AreHosts (starts_of c.as_slice.result.now c.args.begin.now) columns machines members k nodes) (sym (length-map groups.members.items (λ list. list.items)))
+    (subst (λ l. AreHosts (starts_of c.as_slice.result.now c.args.begin.now) columns machines (map (λ list. list.items) l) (length l) nodes) c.deref.ensures.value c.in_ok-hosts.ensures.hosts))
+    in
+    let stand : AreStations machines hosts threads nodes (length machines) stations =
+    subst (λ (hs : List ℕ). AreStations machines hs threads nodes (length machines) stations) c.deref-2.ensures.value
+    (subst (λ (ts : List ℕ). AreStations machines c.deref-2.result.now ts nodes (length machines) stations) c.deref-3.ensures.value
+    (subst (λ (ns : List (Node _)). AreStations machines c.deref-2.result.now c.deref-3.result.now ns (length machines) stations) c.deref-4.ensures.value c.in_ok-stations.ensures))
+    in
+    let all : AreOwnHosts c.in_ok-table.table machines members (length members) nodes =
+    subst (λ k. AreOwnHosts c.in_ok-table.table machines members k nodes) (sym (length-map groups.members.items (λ list. list.items)))
+    (subst (λ l. AreOwnHosts c.in_ok-table.table machines (map (λ list. list.items) l) (length l) nodes) c.deref.ensures.value c.in_ok-hosts.ensures.own)
+    in
+    own-hosts starts columns machines hosts threads members can c.in_ok-groups.ensures nodes are stations stand g.B.Bridge.piece g.B.Bridge.state c.args.plan.now c.as_slice-machines.ensures c.args.bridges.items c.in_ok-table.table c.requires.bridges c.in_ok-table.ensures all
 
 pub table_of-requires : goal.table_of-requires
 table_of-requires g c = c.requires.bridges.names
@@ -96,7 +124,7 @@ stations_of-requires-clause-known g c =
     let are : AreHosts starts columns machines members (length members) nodes =
     subst (λ (rs : List Ratio). AreHosts (starts_of rs c.args.begin.now) columns machines members (length members) nodes) c.as_slice.ensures
     (subst (λ k. AreHosts (starts_of c.as_slice.result.now c.args.begin.now) columns machines members k nodes) (sym (length-map groups.members.items (λ list. list.items)))
-    (subst (λ l. AreHosts (starts_of c.as_slice.result.now c.args.begin.now) columns machines (map (λ list. list.items) l) (length l) nodes) c.deref.ensures.value c.in_ok-hosts.ensures))
+    (subst (λ l. AreHosts (starts_of c.as_slice.result.now c.args.begin.now) columns machines (map (λ list. list.items) l) (length l) nodes) c.deref.ensures.value c.in_ok-hosts.ensures.hosts))
     in
     subst (λ (hs : List ℕ). (m : ℕ) → m < length machines → value_at hs m < length c.deref-4.result.now) (sym c.deref-2.ensures.value)
     (subst (λ (ns : List (Node _)). (m : ℕ) → m < length machines → value_at hosts m < length ns) (sym c.deref-4.ensures.value)
@@ -116,7 +144,7 @@ stations_of-requires-clause-ports g c =
     let are : AreHosts starts columns machines members (length members) nodes =
     subst (λ (rs : List Ratio). AreHosts (starts_of rs c.args.begin.now) columns machines members (length members) nodes) c.as_slice.ensures
     (subst (λ k. AreHosts (starts_of c.as_slice.result.now c.args.begin.now) columns machines members k nodes) (sym (length-map groups.members.items (λ list. list.items)))
-    (subst (λ l. AreHosts (starts_of c.as_slice.result.now c.args.begin.now) columns machines (map (λ list. list.items) l) (length l) nodes) c.deref.ensures.value c.in_ok-hosts.ensures))
+    (subst (λ l. AreHosts (starts_of c.as_slice.result.now c.args.begin.now) columns machines (map (λ list. list.items) l) (length l) nodes) c.deref.ensures.value c.in_ok-hosts.ensures.hosts))
     in
     subst (λ (ns : List (Node _)). All HasPorts ns) (sym c.deref-4.ensures.value) (λ k d lt. (are.each k d (omega (arith, lt, are.total))).ports)
 
@@ -134,7 +162,7 @@ stations_of-requires-clause-there g c =
     let are : AreHosts starts columns machines members (length members) nodes =
     subst (λ (rs : List Ratio). AreHosts (starts_of rs c.args.begin.now) columns machines members (length members) nodes) c.as_slice.ensures
     (subst (λ k. AreHosts (starts_of c.as_slice.result.now c.args.begin.now) columns machines members k nodes) (sym (length-map groups.members.items (λ list. list.items)))
-    (subst (λ l. AreHosts (starts_of c.as_slice.result.now c.args.begin.now) columns machines (map (λ list. list.items) l) (length l) nodes) c.deref.ensures.value c.in_ok-hosts.ensures))
+    (subst (λ l. AreHosts (starts_of c.as_slice.result.now c.args.begin.now) columns machines (map (λ list. list.items) l) (length l) nodes) c.deref.ensures.value c.in_ok-hosts.ensures.hosts))
     in
     subst (λ (ts : List ℕ). (m : ℕ) (any : Node _) → m < length machines → value_at ts m < length (machines_of (get_or c.deref-4.result.now (value_at c.deref-2.result.now m) any))) (sym c.deref-3.ensures.value)
     (subst (λ (hs : List ℕ). (m : ℕ) (any : Node _) → m < length machines → value_at threads m < length (machines_of (get_or c.deref-4.result.now (value_at hs m) any))) (sym c.deref-2.ensures.value)

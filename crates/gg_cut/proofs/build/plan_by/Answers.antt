@@ -2,7 +2,7 @@ use Rattle.std.proofs.Common.{List, sym, subst}
 use Rattle.std.specs.Prelude.{All}
 use Rattle.gg_cut_plan.specs.declared.plan.Channel.{Channel}
 use Rattle.gg_cut_split.proofs.ClosedLemmas.FaultlessLemmas.{range-free}
-use Rattle.gg_cut_machines.specs.inside.Seating.{draft_wires}
+use Rattle.gg_cut_machines.specs.inside.Drafted.{draft_wires}
 use Rattle.gg_cut.specs.Made.{IsCapacity}
 use Rattle.gg_cut.proofs.PlanLemmas.{bounds-sound}
 use Rattle.gg_cut.proofs.build.plan_by.Goals as goal

@@ -1,42 +1,28 @@
-use Rattle.std.proofs.Common.{◌<◌, sym, ◌∙◌, ap, subst, arith}
-use Rattle.gg_cut_plan.specs.declared.listed.Listed.{Listed}
-use Rattle.gg_cut_plan.specs.Hosts.{leader}
-use Rattle.gg_cut_plan.specs.inside.Machines.{machine_count}
-use Rattle.gg_cut_split.specs.inside.Again.{IsUnitAgain}
+use Rattle.std.proofs.Common.{◌<◌, ◌≤◌, ◌-◌, arith}
 use Rattle.gg_cut_parts.specs.inside.Draft.{draft_hub}
-use Rattle.gg_cut.proofs.AlikeLemmas.{own-made}
-use Rattle.gg_cut_machines.proofs.HostLemmas.{leader-below}
-use Rattle.gg_cut_machines.proofs.LeaderLemmas.{leaders-first}
+use Rattle.gg_cut.proofs.BodyLemmas.{bridge-made, source-made, tray-made}
 use Rattle.gg_cut.proofs.machines.body_at.Goals as goal
 
-pub moved_body-requires-clause-again : goal.moved_body-requires-clause-again
-moved_body-requires-clause-again c =
-    let machine = c.args.machine.now in
-    let draft = machine.draft.now in
-    let design = draft.design.now in
-    let request = draft.request.now in
-    let is = c.requires.machine in
-    let first = c.args.first in
-    let below = is.known in
-    let less : first < machine.number = c.if-first-machine.true in
-    subst (λ (l : Listed). IsUnitAgain design l first machine.number) (sym is.draft.listed)
-    (c.units_stand_again.ensures design request first machine.number
-    (record { formed = c.piece.ensures.formed; ordered = c.order.ensures.ordered }) is.draft.keeps is.draft.faultless
-    (subst (λ (l : Listed). first < machine_count design.circuit l) is.draft.listed (omega (arith, less, below)))
-    (subst (λ (l : Listed). machine.number < machine_count design.circuit l) is.draft.listed below)
-    (λ same. absurd (omega (arith, less, same)))
-    (ap (leader request.units request.share) c.requires.first ∙ leaders-first design request is.draft.faultless machine.number))
+pub returns-then-number-starts-2-clause-body : goal.returns-then-number-starts-2-clause-body
+returns-then-number-starts-2-clause-body c =
+    let making = c.args.making.now in
+    let draft = making.draft.now in
+    let starts = c.requires.making.seats.starts in
+    source-made draft.design.now draft.request.now draft.models.now draft.listed c.requires.making.draft.listed (draft_hub draft) making.domains.now.units c.args.machines.now c.args.number (c.args.number - making.seats.now.starts.source)
+    (omega (arith, c.if-number-starts.false, starts.source)) (omega (arith, c.if-number-starts-2.true, starts.tray)) (omega (arith, starts.source))
 
-pub moved_body-requires-clause-timed : goal.moved_body-requires-clause-timed
-moved_body-requires-clause-timed c =
-    let again = moved_body-requires-clause-again c in
-    c.requires.machines.timed c.args.first c.index-machines-first.result c.if-first-machine.true again.units.0 again.units.1
+pub returns-then-number-starts-3-clause-body : goal.returns-then-number-starts-3-clause-body
+returns-then-number-starts-3-clause-body c =
+    let making = c.args.making.now in
+    let draft = making.draft.now in
+    let starts = c.requires.making.seats.starts in
+    tray-made draft.design.now draft.request.now draft.models.now draft.listed c.requires.making.draft.listed (draft_hub draft) making.domains.now.units c.args.machines.now c.args.number
+    (omega (arith, c.if-number-starts-2.false, starts.tray)) (omega (arith, c.if-number-starts-3.true, starts.bridge))
 
-pub returns-else-first-machine : goal.returns-else-first-machine
-returns-else-first-machine c =
-    let machine = c.args.machine.now in
-    let draft = machine.draft.now in
-    let request = draft.request.now in
-    let n = machine.number in
-    let below = leader-below request.units request.share n in
-    own-made draft.design.now request draft.listed (draft_hub draft) machine.domains.now.units c.args.machines.now n c.own_body.result (omega (arith, c.requires.first, c.if-first-machine.false, below)) c.own_body.ensures.body c.own_body.ensures.ascend c.own_body.ensures.timed
+pub returns-in_ok-bridge-clause-body : goal.returns-in_ok-bridge-clause-body
+returns-in_ok-bridge-clause-body c =
+    let making = c.args.making.now in
+    let draft = making.draft.now in
+    let starts = c.requires.making.seats.starts in
+    bridge-made draft.design.now draft.request.now draft.models.now draft.listed c.requires.making.draft.listed (draft_hub draft) making.domains.now.units c.args.machines.now c.args.number c.in_ok-bridge.bridge
+    (omega (arith, c.if-number-starts-3.false, starts.bridge)) c.in_ok-bridge.ensures.body

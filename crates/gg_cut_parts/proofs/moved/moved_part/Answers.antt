@@ -54,7 +54,7 @@ held_again-requires-clause-within c =
 pub givens-requires : goal.givens-requires
 givens-requires c =
     let machine = c.args.machine.now in
-    from-below c.wires.result.now machine.number c.as_slice-2.result.now (c.as_slice-2.ensures ∙ c.requires.machine.share.gives ∙ ap (λ (w : List Wire). channels_from w machine.number) (sym (c.wires.ensures ∙ c.requires.machine.draft.wires)))
+    from-below c.wires.result.now machine.number machine.outs.now (c.requires.machine.share.gives ∙ ap (λ (w : List Wire). channels_from w machine.number) (sym (c.wires.ensures ∙ c.requires.machine.draft.wires)))
 
 -- ---- the piece
 
@@ -63,12 +63,11 @@ moved_piece-requires-clause-within c =
     let machine = c.args.machine.now in
     let leader = c.args.leader.now in
     let draft = machine.draft.now in
-    let share = machine.share.now in
     let numbers : c.in_ok-globals.globals.items ≡ map (again_at draft.design.now draft.listed c.args.first machine.number) leader.globals =
     c.in_ok-globals.ensures {u = tt} ∙ ap (map (shifted c.first_signal-from.result c.first_signal-to.result)) c.as_slice.ensures ∙ ap₂ (λ a b. map (shifted a b) leader.globals) c.first_signal-from.ensures c.first_signal-to.ensures in
     let hub = draft_hub draft in
     let gives : c.deref-3.result.now ≡ givens_of (routes hub) (channels_from (routes hub) machine.number) =
-    c.deref-3.ensures.value ∙ c.in_ok-outs.ensures {u = tt} ∙ ap (givens_of c.wires.result.now) c.as_slice-2.ensures ∙ ap (λ (w : List Wire). givens_of w share.outs) (c.wires.ensures ∙ c.requires.machine.draft.wires) ∙ ap (givens_of (routes hub)) c.requires.machine.share.gives in
+    c.deref-3.ensures.value ∙ c.in_ok-outs.ensures {u = tt} ∙ ap (λ (w : List Wire). givens_of w machine.outs.now) (c.wires.ensures ∙ c.requires.machine.draft.wires) ∙ ap (givens_of (routes hub)) c.requires.machine.share.gives in
     (ready machine c.requires.machine (record { formed = c.piece-whole.ensures.formed; ordered = c.order.ensures.ordered }) c.args.first leader c.requires.again c.requires.leader c.requires.timed c.requires.ascend c.piece-whole.result.now c.deref-2.result.now c.deref-3.result.now c.piece-whole.ensures.circuit (c.deref-2.ensures.value ∙ numbers) gives).within
 
 pub moved_piece-requires-clause-once : goal.moved_piece-requires-clause-once
@@ -76,12 +75,11 @@ moved_piece-requires-clause-once c =
     let machine = c.args.machine.now in
     let leader = c.args.leader.now in
     let draft = machine.draft.now in
-    let share = machine.share.now in
     let numbers : c.in_ok-globals.globals.items ≡ map (again_at draft.design.now draft.listed c.args.first machine.number) leader.globals =
     c.in_ok-globals.ensures {u = tt} ∙ ap (map (shifted c.first_signal-from.result c.first_signal-to.result)) c.as_slice.ensures ∙ ap₂ (λ a b. map (shifted a b) leader.globals) c.first_signal-from.ensures c.first_signal-to.ensures in
     let hub = draft_hub draft in
     let gives : c.deref-3.result.now ≡ givens_of (routes hub) (channels_from (routes hub) machine.number) =
-    c.deref-3.ensures.value ∙ c.in_ok-outs.ensures {u = tt} ∙ ap (givens_of c.wires.result.now) c.as_slice-2.ensures ∙ ap (λ (w : List Wire). givens_of w share.outs) (c.wires.ensures ∙ c.requires.machine.draft.wires) ∙ ap (givens_of (routes hub)) c.requires.machine.share.gives in
+    c.deref-3.ensures.value ∙ c.in_ok-outs.ensures {u = tt} ∙ ap (λ (w : List Wire). givens_of w machine.outs.now) (c.wires.ensures ∙ c.requires.machine.draft.wires) ∙ ap (givens_of (routes hub)) c.requires.machine.share.gives in
     (ready machine c.requires.machine (record { formed = c.piece-whole.ensures.formed; ordered = c.order.ensures.ordered }) c.args.first leader c.requires.again c.requires.leader c.requires.timed c.requires.ascend c.piece-whole.result.now c.deref-2.result.now c.deref-3.result.now c.piece-whole.ensures.circuit (c.deref-2.ensures.value ∙ numbers) gives).once
 
 pub moved_piece-requires-clause-outs : goal.moved_piece-requires-clause-outs
@@ -89,12 +87,11 @@ moved_piece-requires-clause-outs c =
     let machine = c.args.machine.now in
     let leader = c.args.leader.now in
     let draft = machine.draft.now in
-    let share = machine.share.now in
     let numbers : c.in_ok-globals.globals.items ≡ map (again_at draft.design.now draft.listed c.args.first machine.number) leader.globals =
     c.in_ok-globals.ensures {u = tt} ∙ ap (map (shifted c.first_signal-from.result c.first_signal-to.result)) c.as_slice.ensures ∙ ap₂ (λ a b. map (shifted a b) leader.globals) c.first_signal-from.ensures c.first_signal-to.ensures in
     let hub = draft_hub draft in
     let gives : c.deref-3.result.now ≡ givens_of (routes hub) (channels_from (routes hub) machine.number) =
-    c.deref-3.ensures.value ∙ c.in_ok-outs.ensures {u = tt} ∙ ap (givens_of c.wires.result.now) c.as_slice-2.ensures ∙ ap (λ (w : List Wire). givens_of w share.outs) (c.wires.ensures ∙ c.requires.machine.draft.wires) ∙ ap (givens_of (routes hub)) c.requires.machine.share.gives in
+    c.deref-3.ensures.value ∙ c.in_ok-outs.ensures {u = tt} ∙ ap (λ (w : List Wire). givens_of w machine.outs.now) (c.wires.ensures ∙ c.requires.machine.draft.wires) ∙ ap (givens_of (routes hub)) c.requires.machine.share.gives in
     (ready machine c.requires.machine (record { formed = c.piece-whole.ensures.formed; ordered = c.order.ensures.ordered }) c.args.first leader c.requires.again c.requires.leader c.requires.timed c.requires.ascend c.piece-whole.result.now c.deref-2.result.now c.deref-3.result.now c.piece-whole.ensures.circuit (c.deref-2.ensures.value ∙ numbers) gives).givens_known
 
 pub returns : goal.returns
@@ -102,16 +99,15 @@ returns c =
     let machine = c.args.machine.now in
     let leader = c.args.leader.now in
     let draft = machine.draft.now in
-    let share = machine.share.now in
     let numbers : c.in_ok-globals.globals.items ≡ map (again_at draft.design.now draft.listed c.args.first machine.number) leader.globals =
     c.in_ok-globals.ensures {u = tt} ∙ ap (map (shifted c.first_signal-from.result c.first_signal-to.result)) c.as_slice.ensures ∙ ap₂ (λ a b. map (shifted a b) leader.globals) c.first_signal-from.ensures c.first_signal-to.ensures in
     let hub = draft_hub draft in
     let gives : c.deref-3.result.now ≡ givens_of (routes hub) (channels_from (routes hub) machine.number) =
-    c.deref-3.ensures.value ∙ c.in_ok-outs.ensures {u = tt} ∙ ap (givens_of c.wires.result.now) c.as_slice-2.ensures ∙ ap (λ (w : List Wire). givens_of w share.outs) (c.wires.ensures ∙ c.requires.machine.draft.wires) ∙ ap (givens_of (routes hub)) c.requires.machine.share.gives in
+    c.deref-3.ensures.value ∙ c.in_ok-outs.ensures {u = tt} ∙ ap (λ (w : List Wire). givens_of w machine.outs.now) (c.wires.ensures ∙ c.requires.machine.draft.wires) ∙ ap (givens_of (routes hub)) c.requires.machine.share.gives in
     let held = held-is machine c.requires.machine (record { formed = c.piece-whole.ensures.formed; ordered = c.order.ensures.ordered }) c.args.first leader c.requires.again c.requires.leader c.requires.timed c.requires.ascend c.piece-whole.result.now c.deref.result.now c.in_ok-held.held.items c.piece-whole.ensures.circuit (c.deref.ensures.value ∙ numbers) (c.in_ok-held.ensures {u = tt}) in
     let home : c.clocks-own.result.now ≡ machine_clocks draft.design.now.tree draft.listed machine.number =
     c.clocks-own.ensures ∙ c.requires.machine.domains.clocks (clock_home draft.listed machine.number) (home-known draft.design.now.tree draft.listed c.requires.machine.draft.keeps.fitting.top.there c.requires.machine.draft.apart.known machine.number) in
     let part : Part = record { piece = c.in_ok-piece.piece; globals = c.from.result; held = c.from-2.result; memories = c.in_ok-memories.memories; clocks = c.from-3.result } in
     follows machine c.requires.machine (record { formed = c.piece-whole.ensures.formed; ordered = c.order.ensures.ordered }) c.args.first leader c.requires.again c.requires.leader c.requires.timed c.requires.ascend c.piece-whole.result.now c.deref-2.result.now c.deref-3.result.now c.piece-whole.ensures.circuit (c.deref-2.ensures.value ∙ numbers) gives
     part (c.in_ok-piece.ensures {u = tt}) (c.from.ensures ∙ sym c.deref-2.ensures.value) (c.from-2.ensures ∙ held)
-    (c.in_ok-memories.ensures {u = tt} ∙ c.as_slice-3.ensures) (c.from-3.ensures ∙ c.in_ok-clocks.ensures.items ∙ home)
+    (c.in_ok-memories.ensures {u = tt}) (c.from-3.ensures ∙ c.in_ok-clocks.ensures.items ∙ home)

@@ -19,12 +19,12 @@ use Rattle.gg_cut_parts.proofs.parts.cut_part.Goals as goal
 pub signals-requires : goal.signals-requires
 signals-requires c =
     let machine = c.args.machine.now in
-    to-below c.wires.result.now machine.number c.as_slice.result.now (c.as_slice.ensures ∙ c.requires.machine.share.takes ∙ ap (λ (w : List Wire). channels_to w machine.number) (sym (c.wires.ensures ∙ c.requires.machine.draft.wires)))
+    to-below c.wires.result.now machine.number machine.ins.now (c.requires.machine.share.takes ∙ ap (λ (w : List Wire). channels_to w machine.number) (sym (c.wires.ensures ∙ c.requires.machine.draft.wires)))
 
 pub givens-requires : goal.givens-requires
 givens-requires c =
     let machine = c.args.machine.now in
-    from-below c.wires-2.result.now machine.number c.as_slice-2.result.now (c.as_slice-2.ensures ∙ c.requires.machine.share.gives ∙ ap (λ (w : List Wire). channels_from w machine.number) (sym (c.wires-2.ensures ∙ c.requires.machine.draft.wires)))
+    from-below c.wires-2.result.now machine.number machine.outs.now (c.requires.machine.share.gives ∙ ap (λ (w : List Wire). channels_from w machine.number) (sym (c.wires-2.ensures ∙ c.requires.machine.draft.wires)))
 
 pub part_of-requires-clause-few : goal.part_of-requires-clause-few
 part_of-requires-clause-few c =
@@ -38,44 +38,40 @@ part_of-requires-clause-timed c =
     let design = draft.design.now in
     let listed = draft.listed in
     let hub = draft_hub draft in
-    let share = machine.share.now in
     let is = c.requires.machine in
     let k = c.clocking.result.now in
-    let given = signals_of (routes hub) share.ins in
+    let given = signals_of (routes hub) machine.ins.now in
     let home : c.clocks.result.now ≡ machine_clocks design.tree listed machine.number =
     c.clocks.ensures ∙ is.domains.clocks (clock_home listed machine.number) (home-known design.tree listed is.draft.keeps.fitting.top.there is.draft.apart.known machine.number) in
-    let taken : c.deref.result.now ≡ signals_of (routes hub) share.ins =
-    c.deref.ensures.value ∙ c.in_ok-ins.ensures {u = tt} ∙ ap (signals_of c.wires.result.now) c.as_slice.ensures ∙ ap (λ (w : List Wire). signals_of w share.ins) (c.wires.ensures ∙ is.draft.wires) in
+    let taken : c.deref.result.now ≡ signals_of (routes hub) machine.ins.now =
+    c.deref.ensures.value ∙ c.in_ok-ins.ensures {u = tt} ∙ ap (λ (w : List Wire). signals_of w machine.ins.now) (c.wires.ensures ∙ is.draft.wires) in
     let unit : first_unit ≤ machine.number → machine.number < first_memory listed → IsUnitRouted design listed hub machine.number = λ first high. draft-routed draft is.draft (record { formed = c.piece.ensures.formed; ordered = c.order.ensures.ordered }) machine.number (λ z. absurd (omega (arith, first, z))) in
-    subst (λ (w : FlatCircuit). AreTimed w c.as_slice-3.result.now c.deref.result.now c.as_slice-4.result.now c.clocks.result.now k.registers k.ports) (sym c.piece.ensures.circuit)
-    (subst (λ (l : List ℕ). AreTimed design.circuit l c.deref.result.now c.as_slice-4.result.now c.clocks.result.now k.registers k.ports) (sym c.as_slice-3.ensures)
-    (subst (λ (l : List ℕ). AreTimed design.circuit share.globals l c.as_slice-4.result.now c.clocks.result.now k.registers k.ports) (sym taken)
-    (subst (λ (l : List ℕ). AreTimed design.circuit share.globals given l c.clocks.result.now k.registers k.ports) (sym c.as_slice-4.ensures)
-    (subst (λ (l : List (Option ℕ)). AreTimed design.circuit share.globals given share.memories l k.registers k.ports) (sym home)
-    (share-timed design listed hub is.draft.keeps is.draft.apart c.piece.ensures.formed machine.domains.now is.domains share.ins share.outs share.globals share.memories k machine.number c.requires.inside is.share unit c.clocking.ensures.hub c.clocking.ensures.unit c.clocking.ensures.memory)))))
+    subst (λ (w : FlatCircuit). AreTimed w machine.globals.now c.deref.result.now machine.memories.now c.clocks.result.now k.registers k.ports) (sym c.piece.ensures.circuit)
+    (subst (λ (l : List ℕ). AreTimed design.circuit machine.globals.now l machine.memories.now c.clocks.result.now k.registers k.ports) (sym taken)
+    (subst (λ (l : List (Option ℕ)). AreTimed design.circuit machine.globals.now given machine.memories.now l k.registers k.ports) (sym home)
+    (share-timed design listed hub is.draft.keeps is.draft.apart c.piece.ensures.formed machine.domains.now is.domains machine.ins.now machine.outs.now machine.globals.now machine.memories.now k machine.number c.requires.machine.known is.share unit c.clocking.ensures.hub c.clocking.ensures.unit c.clocking.ensures.memory)))
 
 pub returns-clause-part : goal.returns-clause-part
 returns-clause-part c =
     let machine = c.args.machine.now in
     let draft = machine.draft.now in
-    let share = machine.share.now in
     let is = c.requires.machine in
     let made = c.in_ok-part.ensures in
     let wires = c.wires.result.now in
     let home : c.clocks.result.now ≡ machine_clocks draft.design.now.tree draft.listed machine.number =
     c.clocks.ensures ∙ is.domains.clocks (clock_home draft.listed machine.number) (home-known draft.design.now.tree draft.listed is.draft.keeps.fitting.top.there is.draft.apart.known machine.number) in
-    let taken : c.deref.result.now ≡ signals_of wires share.ins = c.deref.ensures.value ∙ c.in_ok-ins.ensures {u = tt} ∙ ap (signals_of wires) c.as_slice.ensures in
-    let given : c.deref-2.result.now ≡ givens_of wires share.outs =
-    c.deref-2.ensures.value ∙ c.in_ok-outs.ensures {u = tt} ∙ ap (givens_of c.wires-2.result.now) c.as_slice-2.ensures ∙ ap (λ (w : List Wire). givens_of w share.outs) (c.wires-2.ensures ∙ sym c.wires.ensures) in
-    cut-part draft.design.now draft.listed (draft_hub draft) wires (c.wires.ensures ∙ is.draft.wires) machine.number share c.piece.result.now c.in_ok-part.part is.share c.piece.ensures.circuit made.part (made.clocks ∙ home)
-    (made.globals ∙ c.as_slice-3.ensures) (made.memories ∙ c.as_slice-4.ensures) (made.ins ∙ taken) (made.outs ∙ given)
-    (subst (λ (l : List ℕ). AreHeld c.piece.result.now l (signals_of wires share.ins) c.in_ok-part.part.held) (sym made.globals)
-    (subst (λ (l : List ℕ). AreHeld c.piece.result.now c.as_slice-3.result.now l c.in_ok-part.part.held) taken made.held))
+    let taken : c.deref.result.now ≡ signals_of wires machine.ins.now = c.deref.ensures.value ∙ c.in_ok-ins.ensures {u = tt} in
+    let given : c.deref-2.result.now ≡ givens_of wires machine.outs.now =
+    c.deref-2.ensures.value ∙ c.in_ok-outs.ensures {u = tt} ∙ ap (λ (w : List Wire). givens_of w machine.outs.now) (c.wires-2.ensures ∙ sym c.wires.ensures) in
+    cut-part draft.design.now draft.listed (draft_hub draft) wires (c.wires.ensures ∙ is.draft.wires) machine.number machine.ins.now machine.outs.now machine.globals.now machine.memories.now c.piece.result.now c.in_ok-part.part is.share c.piece.ensures.circuit made.part (made.clocks ∙ home)
+    made.globals made.memories (made.ins ∙ taken) (made.outs ∙ given)
+    (subst (λ (l : List ℕ). AreHeld c.piece.result.now l (signals_of wires machine.ins.now) c.in_ok-part.part.held) (sym made.globals)
+    (subst (λ (l : List ℕ). AreHeld c.piece.result.now machine.globals.now l c.in_ok-part.part.held) taken made.held))
     c.order.ensures.ordered c.part_in_order.ensures.along
 
 pub returns-clause-ascend : goal.returns-clause-ascend
 returns-clause-ascend c =
-    subst (λ (l : List ℕ). AllPairs (λ a b. a < b) l) (sym (c.in_ok-part.ensures.memories ∙ c.as_slice-4.ensures)) c.requires.machine.share.ascend
+    subst (λ (l : List ℕ). AllPairs (λ a b. a < b) l) (sym c.in_ok-part.ensures.memories) c.requires.machine.share.ascend
 
 pub returns-clause-timed : goal.returns-clause-timed
 returns-clause-timed c = λ first high.

@@ -4,11 +4,10 @@ use Rattle.gg_measure.proofs.run.follow.Goals as goal
 
 pub loop-preserved : goal.loop-preserved
 loop-preserved g c =
-    run-then c.args.cycle c.note_first.new.net c.loop.net c.pass.new.net c.loop.invariant
+    run-then c.args.cycle c.args.net.now c.loop.net c.pass.new.net c.loop.invariant
     (run-up-to c.args.cycle c.args.cycle c.loop.net c.pass.new.net c.pass.result (omega arith) c.pass.ensures.goes)
 
 pub returns : goal.returns
 returns g c =
-    run-then c.args.cycle c.args.net.now c.note_first.new.net c.pass.new.net c.note_first.ensures
-    (run-then c.args.cycle c.note_first.new.net c.loop.net c.pass.new.net c.loop.invariant
-    (run-up-to c.args.cycle c.args.cycle c.loop.net c.pass.new.net c.pass.result (omega arith) c.pass.ensures.goes))
+    run-then c.args.cycle c.args.net.now c.loop.net c.pass.new.net c.loop.invariant
+    (run-up-to c.args.cycle c.args.cycle c.loop.net c.pass.new.net c.pass.result (omega arith) c.pass.ensures.goes)

@@ -1,21 +1,21 @@
 use Rattle.gg_measure.proofs.RunLemmas.{run-then, within-run, frame-run, end-run, above-run}
 use Rattle.gg_measure.proofs.run.run_by.Goals as goal
 
-pub run_rounds-requires-clause-within : goal.run_rounds-requires-clause-within
-run_rounds-requires-clause-within g c κs within = end-run g.Z.Streams.flow c.args.cycle c.args.net.now c.follow.new.net c.kept.ensures c.follow.ensures c.requires.within
+pub run_noted-requires-clause-within : goal.run_noted-requires-clause-within
+run_noted-requires-clause-within g c κs within = end-run g.Z.Streams.flow c.args.cycle c.args.net.now c.note_first.new.net c.kept.ensures c.note_first.ensures c.requires.within
 
-pub run_rounds-requires-clause-none_above : goal.run_rounds-requires-clause-none_above
-run_rounds-requires-clause-none_above g c κs within = above-run g.Z.Streams.flow c.args.cycle c.args.net.now c.follow.new.net c.kept.ensures c.follow.ensures c.requires.none_above
+pub run_noted-requires-clause-none_above : goal.run_noted-requires-clause-none_above
+run_noted-requires-clause-none_above g c κs within = above-run g.Z.Streams.flow c.args.cycle c.args.net.now c.note_first.new.net c.kept.ensures c.note_first.ensures c.requires.none_above
 
 pub returns-clause-steps : goal.returns-clause-steps
-returns-clause-steps g c = run-then c.args.cycle c.args.net.now c.follow.new.net c.run_rounds.new.net c.follow.ensures c.run_rounds.ensures.steps
+returns-clause-steps g c = run-then c.args.cycle c.args.net.now c.note_first.new.net c.run_noted.new.net c.note_first.ensures c.run_noted.ensures.steps
 
 pub returns-clause-bounds : goal.returns-clause-bounds
 returns-clause-bounds g c =
-    within-run g.Z.Streams.flow c.args.cycle c.args.net.now c.run_rounds.new.net c.kept.ensures
-    (run-then c.args.cycle c.args.net.now c.follow.new.net c.run_rounds.new.net c.follow.ensures c.run_rounds.ensures.steps)
+    within-run g.Z.Streams.flow c.args.cycle c.args.net.now c.run_noted.new.net c.kept.ensures
+    (run-then c.args.cycle c.args.net.now c.note_first.new.net c.run_noted.new.net c.note_first.ensures c.run_noted.ensures.steps)
 
 pub returns-clause-frame : goal.returns-clause-frame
 returns-clause-frame g c =
-    frame-run g.Z.Streams.flow c.args.cycle c.args.net.now c.run_rounds.new.net c.kept.ensures
-    (run-then c.args.cycle c.args.net.now c.follow.new.net c.run_rounds.new.net c.follow.ensures c.run_rounds.ensures.steps)
+    frame-run g.Z.Streams.flow c.args.cycle c.args.net.now c.run_noted.new.net c.kept.ensures
+    (run-then c.args.cycle c.args.net.now c.note_first.new.net c.run_noted.new.net c.note_first.ensures c.run_noted.ensures.steps)

@@ -12,5 +12,5 @@ returns-clause-row g c =
     subst (λ (row : List ℕ). g.W.Rows.takes c.args.rows.now c.args.taken.now c.args.cycle row c.take.new.taken c.take.result)
     (c.output_values.ensures plan start columns n upto run stands.of_plan from counted stands.all lt near) c.take.ensures
 
-pub returns-clause-some : goal.returns-clause-some
-returns-clause-some g c = record { cycle = c.args.cycle; row = c.output_values.new.outs; took = c.take.ensures }
+pub returns-clause-at : goal.returns-clause-at
+returns-clause-at g c = record { row = c.output_values.new.outs; took = c.take.ensures }

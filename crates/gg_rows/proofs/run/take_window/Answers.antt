@@ -1,6 +1,7 @@
-use Rattle.std.proofs.Common.{◌≡◌, false, length, subst, arith}
+use Rattle.std.proofs.Common.{◌≡◌, Ok, false, length, subst, arith}
 use Rattle.gg_io.proofs.EndingLemmas.{exit-is}
-use Rattle.gg_rows.proofs.RunLemmas.{taken-all, taken-fails, taken-last, taken-next, taken-start}
+use Rattle.gg_rows.specs.inside.Taken.{TakesAt}
+use Rattle.gg_rows.proofs.RunLemmas.{some-at, taken-all, taken-fails, taken-last, taken-next, taken-start}
 use Rattle.gg_rows.proofs.TakenLemmas.{went-more, went-on-so}
 use Rattle.gg_rows.proofs.run.take_window.Goals as goal
 
@@ -21,7 +22,7 @@ returns-in_err-goes_on-clause-rows g c =
     taken-fails c.loop-cycle.invariant (omega (arith, c.loop-cycle-test.true)) _ same c.take_cycle.new.taken _ _ (exit-is c.from_residual.ensures.1) c.in_err-goes_on.ensures.row
 
 pub returns-in_err-goes_on-clause-went : goal.returns-in_err-goes_on-clause-went
-returns-in_err-goes_on-clause-went g c = rw (exit-is c.from_residual.ensures.1) (went-more c.loop-cycle.invariant.went c.in_err-goes_on.ensures.some)
+returns-in_err-goes_on-clause-went g c = rw (exit-is c.from_residual.ensures.1) (went-more c.loop-cycle.invariant.went (some-at c.in_err-goes_on.ensures.at))
 
 pub returns-then-not-goes_on-clause-rows : goal.returns-then-not-goes_on-clause-rows
 returns-then-not-goes_on-clause-rows g c =
@@ -29,12 +30,12 @@ returns-then-not-goes_on-clause-rows g c =
     taken-last c.loop-cycle.invariant (omega (arith, c.loop-cycle-test.true)) _ same c.take_cycle.new.taken c.in_ok-goes_on.goes_on (grind (arith, c.if-not-goes_on.true)) c.in_ok-goes_on.ensures.row
 
 pub returns-then-not-goes_on-clause-went : goal.returns-then-not-goes_on-clause-went
-returns-then-not-goes_on-clause-went g c = went-on-so false (went-more c.loop-cycle.invariant.went c.in_ok-goes_on.ensures.some)
+returns-then-not-goes_on-clause-went g c = went-on-so false (went-more c.loop-cycle.invariant.went (some-at c.in_ok-goes_on.ensures.at))
 
 pub loop-cycle-preserved : goal.loop-cycle-preserved
 loop-cycle-preserved g c =
     let same : length c.loop-cycle.outs ≡ length c.args.outs.now = omega (arith, c.loop-cycle.auto.outs) in
-    taken-next c.loop-cycle.invariant (omega (arith, c.loop-cycle-test.true)) _ same c.take_cycle.new.taken c.in_ok-goes_on.goes_on (grind (arith, c.if-not-goes_on.false)) c.in_ok-goes_on.ensures.some c.in_ok-goes_on.ensures.row
+    taken-next c.loop-cycle.invariant (omega (arith, c.loop-cycle-test.true)) _ same c.take_cycle.new.taken c.in_ok-goes_on.goes_on (grind (arith, c.if-not-goes_on.false)) (some-at c.in_ok-goes_on.ensures.at) c.in_ok-goes_on.ensures.row
 
 pub returns-clause-rows : goal.returns-clause-rows
 returns-clause-rows g c =
@@ -43,3 +44,17 @@ returns-clause-rows g c =
 
 pub returns-clause-went : goal.returns-clause-went
 returns-clause-went g c = c.loop-cycle.invariant.went
+
+pub returns-then-not-goes_on-clause-last : goal.returns-then-not-goes_on-clause-last
+returns-then-not-goes_on-clause-last g c =
+    let off : c.in_ok-goes_on.goes_on ≡ false = grind (arith, c.if-not-goes_on.true) in
+    λ e. record {
+      cycle = c.loop-cycle.cycle;
+      low = c.loop-cycle.invariant.low;
+      high = omega (arith, c.loop-cycle-test.true);
+      before = c.loop-cycle.taken;
+      last = subst (λ on. TakesAt (g.W.Rows.takes c.args.rows.now) c.loop-cycle.cycle c.loop-cycle.taken c.take_cycle.new.taken (Ok on)) off c.in_ok-goes_on.ensures.at;
+    }
+
+pub returns-clause-last : goal.returns-clause-last
+returns-clause-last g c = λ e. absurd (cc)

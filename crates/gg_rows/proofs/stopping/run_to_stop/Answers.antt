@@ -1,9 +1,6 @@
-use Rattle.std.proofs.Common.{length, refl, ap, arith}
-use Rattle.gg_build.specs.inside.Build.{run_from_zeros}
-use Rattle.gg_cut_reference.specs.Follows.{plan_start}
+use Rattle.std.proofs.Common.{length, ap, arith}
 use Rattle.gg_io.proofs.EndingLemmas.{exit-is}
 use Rattle.gg_rows.specs.inside.Rows.{AreTraysOf}
-use Rattle.gg_rows.proofs.OpeningLemmas.{from-zeros}
 use Rattle.gg_rows.proofs.StopLemmas.{stops-for-memory}
 use Rattle.gg_rows.proofs.StoppedLemmas.{stopped-first, stopped-none}
 use Rattle.gg_rows.proofs.stopping.run_to_stop.Goals as goal
@@ -19,21 +16,19 @@ returns-in_err-net-clause-refused g c = rw (exit-is c.from_residual-in_err-net.e
 
 pub returns-then-whole-clause-first : goal.returns-then-whole-clause-first
 returns-then-whole-clause-first g c =
-    λ plan columns n ports run opens same behind follows.
-    let counted : AreTraysOf (run_from_zeros run) c.args.trays.first (length c.as_mut_slice.result.now) =
+    λ plan start columns n ports run opens from same behind follows.
+    let counted : AreTraysOf run c.args.trays.first (length c.as_mut_slice.result.now) =
     record { begin = same.begin; many = omega (arith, c.in_ok-values.ensures.len, same.many, ap length c.as_mut_slice.ensures.value) } in
-    let from = from-zeros plan columns n g.Z.Streams.flow run c.args.net opens in
     stopped-none run ports c.args.stops.now c.args.shown c.args.cycles follows behind c.in_ok-net.whole c.if-whole.true
-    (c.in_ok-net.ensures.ran plan (plan_start run.design run.request) columns n (run_from_zeros run) from refl counted)
+    (c.in_ok-net.ensures.ran plan start columns n run opens from counted)
 
 pub returns-clause-first : goal.returns-clause-first
 returns-clause-first g c =
-    λ plan columns n ports run opens same behind follows.
-    let counted : AreTraysOf (run_from_zeros run) c.args.trays.first (length c.as_mut_slice.result.now) =
+    λ plan start columns n ports run opens from same behind follows.
+    let counted : AreTraysOf run c.args.trays.first (length c.as_mut_slice.result.now) =
     record { begin = same.begin; many = omega (arith, c.in_ok-values.ensures.len, same.many, ap length c.as_mut_slice.ensures.value) } in
-    let from = from-zeros plan columns n g.Z.Streams.flow run c.args.net opens in
     stopped-first run ports c.args.stops.now c.args.shown c.args.cycles follows behind c.in_ok-net.whole (grind (arith, c.if-whole.false))
-    (c.in_ok-net.ensures.ran plan (plan_start run.design run.request) columns n (run_from_zeros run) from refl counted)
+    (c.in_ok-net.ensures.ran plan start columns n run opens from counted)
 
 pub returns-then-whole-clause-stands : goal.returns-then-whole-clause-stands
 returns-then-whole-clause-stands g c = λ e. c.in_ok-net.ensures.out.stands c.if-whole.true

@@ -55,4 +55,4 @@ returns g c = λ start can.
     let values : c.registers.result.now ≡ snap.state.registers = c.registers.ensures ∙ ap (λ (s : State). s.registers) c.into_state-state.ensures.is in
     let tokens = tokens-by c.as_slice-channels.result.now plan.channels c.registers.result.now snap.state.registers (length c.registers-held.result.now) (length design.circuit.registers) c.in_ok-tokens.tokens.items c.as_slice-channels.ensures values held c.in_ok-tokens.ensures in
     let begin : Begin = record { cycle = c.cycle-cycle.result; state = Some c.into_state-state.result; tokens = c.in_ok-tokens.tokens } in
-    c.in_ok-net.ensures can.run.design can.run.request start (begins plan design snap.cycle snap.state start trace.columns trace.rows flow can begin c.cycle-cycle.ensures.is (ap Some c.into_state-state.ensures.is) tokens)
+    c.in_ok-net.ensures start can.run (begins plan design snap.cycle snap.state start trace.columns trace.rows flow can begin c.cycle-cycle.ensures.is (ap Some c.into_state-state.ensures.is) tokens)

@@ -14,7 +14,7 @@ reference_of-requires g c =
 pub snapshot-requires-clause-ended : goal.snapshot-requires-clause-ended
 snapshot-requires-clause-ended g c κs within =
     let run = c.requires.run in
-    has-ended c.args.fed.now g.Z.Streams.flow run.0 run.1 run.2 (c.requires.case.4.cuts.alone refl) c.args.net.now c.rows-cycle.result c.rows-cycle.ensures.count run.3 c.in_ok-reference.reference.circuit c.in_ok-reference.ensures.circuit
+    has-ended c.args.fed.now g.Z.Streams.flow run.0 (c.requires.case.4.cuts.alone refl) c.args.net.now c.rows-cycle.result c.rows-cycle.ensures.count run.1 c.in_ok-reference.reference.circuit c.in_ok-reference.ensures.circuit
 
 pub snapshot-requires-clause-fresh : goal.snapshot-requires-clause-fresh
 snapshot-requires-clause-fresh g c κs within = case-fresh c.requires.case.4
@@ -29,7 +29,7 @@ snap_text-requires g c =
 pub returns : goal.returns
 returns g c =
     IfOk-weaker c.snap_text.result _ _
-    (λ text is run design request stands.
-    after-is c.args.fed.now g.Z.Streams.flow run design request (c.requires.case.4.cuts.alone refl) c.args.net.now c.rows-cycle.result c.rows-cycle.ensures.count stands c.in_ok-snap.snap c.in_ok-reference.reference text
+    (λ text is replay stands.
+    after-is c.args.fed.now g.Z.Streams.flow replay (c.requires.case.4.cuts.alone refl) c.args.net.now c.rows-cycle.result c.rows-cycle.ensures.count stands c.in_ok-snap.snap c.in_ok-reference.reference text
     c.in_ok-snap.ensures.design c.in_ok-reference.ensures.circuit c.in_ok-reference.ensures.tree c.in_ok-snap.ensures.cycle c.in_ok-snap.ensures.state is)
     c.snap_text.ensures.text

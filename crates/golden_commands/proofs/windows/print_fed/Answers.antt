@@ -1,4 +1,4 @@
-use Rattle.std.proofs.Common.{refl, subst}
+use Rattle.std.proofs.Common.{subst}
 use Rattle.gg_cut_reference.specs.whole.Whole.{plan_circuit}
 use Rattle.gg_rows.specs.inside.Printed.{out_columns}
 use Rattle.std.proofs.lemmas.Result.{IfOk-weaker}
@@ -16,7 +16,6 @@ pub print_flow-requires-clause-run : goal.print_flow-requires-clause-run
 print_flow-requires-clause-run g c κs within =
     let r = c.requires.fed in (
       to-replay (to_run c.args.models.now) r.0 r.1 r.2 r.3 c.args.fed.now r.4,
-      refl,
       fed-ports (to_run c.args.models.now) r.0 r.1 r.2 r.3 c.args.fed.now r.4 c.in_ok-ports.ports c.in_ok-ports.ensures,
     )
 
@@ -29,11 +28,12 @@ pub returns-clause-prints : goal.returns-clause-prints
 returns-clause-prints g c =
     let r = c.requires.fed in
     let fed = c.args.fed.now in
-    let run = to-replay (to_run c.args.models.now) r.0 r.1 r.2 r.3 fed r.4 in
+    let replay = to-replay (to_run c.args.models.now) r.0 r.1 r.2 r.3 fed r.4 in
+    let run = replay.run in
     let columns = out_columns (plan_circuit fed.case.design fed.case.cut.request c.args.models.now) run.rows in
     let told = fed-rows (to_run c.args.models.now) r.0 r.1 r.2 r.3 fed r.4 c.in_ok-ports.ports run.rows c.in_ok-ports.ensures in (
       run.rows,
       own-run (to_run c.args.models.now) r.0 r.1 r.2 r.3 fed r.4,
-      fed-prints (to_run c.args.models.now) r.0 r.1 r.2 r.3 fed r.4 _ _ _ c.print_flow.result c.in_ok-ports.ports run.rows c.in_ok-ports.ensures (c.print_flow.ensures.prints run refl),
-      IfOk-weaker c.print_flow.result _ _ (λ done kept. subst (λ k. AreFedToTrays fed k columns) told (kept run refl)) c.print_flow.ensures.kept,
+      fed-prints (to_run c.args.models.now) r.0 r.1 r.2 r.3 fed r.4 _ _ _ c.print_flow.result c.in_ok-ports.ports run.rows c.in_ok-ports.ensures (c.print_flow.ensures.prints replay),
+      IfOk-weaker c.print_flow.result _ _ (λ done kept. subst (λ k. AreFedToTrays fed k columns) told (kept replay)) c.print_flow.ensures.kept,
     )

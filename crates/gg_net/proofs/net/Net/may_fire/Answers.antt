@@ -1,10 +1,23 @@
-use Rattle.std.proofs.Common.{arith}
+use Rattle.std.proofs.Common.{ℕ, ◌<◌, length, refl, arith}
 use Rattle.gg_node.specs.Machine.{machine_at}
-use Rattle.gg_net.proofs.BelowLemmas.{fire-below}
+use Rattle.gg_net.specs.Network.{queue_at}
+use Rattle.gg_net.proofs.TableLemmas.{fire-can}
+use Rattle.gg_net.proofs.BelowLemmas.{not-so, not-true, not-both, fire-below, below-fire}
 use Rattle.gg_net.proofs.net.Net.may_fire.Goals as goal
+
+pub returns-then-channel-channels : goal.returns-then-channel-channels
+returns-then-channel-channels g c = not-so (λ may. omega (arith, c.if-channel-channels.true, c.channels.ensures, (fire-can c.args.self.now c.kept.ensures.sound.wired c.args.channel may.0).can.0))
 
 pub returns-then-gives : goal.returns-then-gives
 returns-then-gives g c =
-    fire-below c.args.self.now c.kept.ensures.sound.wired c.args.cycle c.requires c.args.channel c.wire-wire.result
-    (machine_at (g.H.Host.machines c.host_and_thread-thread.result.0.now) c.host_and_thread-thread.result.1) c.queued.result
-    (omega (arith, c.if-channel-channels.false, c.channels.ensures)) c.wire-wire.ensures.is c.host_and_thread-thread.ensures.machine (c.gives.ensures.0 c.if-gives.true) c.queued.ensures
+    let x = (machine_at (g.H.Host.machines c.host_and_thread-thread.result.0.now) c.host_and_thread-thread.result.1) in
+    let known : c.args.channel < length c.args.self.now.wires = omega (arith, c.if-channel-channels.false, c.channels.ensures) in (
+      λ some. fire-below c.args.self.now c.kept.ensures.sound.wired c.args.cycle c.requires c.args.channel c.wire-wire.result x c.wire-wire.ensures.is c.queued.result known c.host_and_thread-thread.ensures.machine (c.gives.ensures.0 c.if-gives.true) c.queued.ensures some,
+      λ may. (below-fire c.args.self.now c.kept.ensures.sound.wired c.args.cycle c.requires c.args.channel c.wire-wire.result x c.wire-wire.ensures.is c.queued.result c.host_and_thread-thread.ensures.machine c.queued.ensures may).1,
+    )
+
+pub returns-else-gives : goal.returns-else-gives
+returns-else-gives g c =
+    let x = (machine_at (g.H.Host.machines c.host_and_thread-thread.result.0.now) c.host_and_thread-thread.result.1) in
+    let count : ℕ = length (queue_at c.args.self.now.queues c.args.channel) in
+    not-true c.gives.result c.if-gives.false (λ may. not-both c.gives.result (c.gives.ensures.1 (below-fire c.args.self.now c.kept.ensures.sound.wired c.args.cycle c.requires c.args.channel c.wire-wire.result x c.wire-wire.ensures.is count c.host_and_thread-thread.ensures.machine refl may).0) c.if-gives.false)

@@ -1,7 +1,5 @@
 use Rattle.std.proofs.Common.{◌≡◌, ◌≢◌, ◌⊎◌, ℕ, List, Bool, true, length, subst, sym, ap, ◌∙◌, arith}
 use Rattle.std.specs.Prelude.{All, AllPairs, Contains}
-use Rattle.std.proofs.lemmas.List.{with_items_is}
-use Rattle.std.specs.Vec.{with_items}
 use Rattle.gg_order.specs.Marks.{is_marked}
 use Rattle.gg_program.specs.Slots.{Slotted}
 use Rattle.gg_program.specs.Right.{AreRight, InCycle}
@@ -30,22 +28,17 @@ returns-clause-cycle g c =
     let out = c.args.signal in
     let slots = c.args.self.now in
     let search = c.sort.new.self in
-    let values = c.work_out.new.values in
-    let room = c.work_out.new.room in
+    let cells = c.work_out.new.cells in
     let moved = IsGathered-moved circuit out c.self.inside.search.marks c.gather.new.self search c.sort.ensures.marks c.sort.ensures.same c.gather.ensures in
     let gathered : IsGathered circuit out slots.done search = subst (λ (s : Slotted). IsGathered circuit out s.done search) c.self.view_is moved in
     let behind : StandBehind circuit slots.done c.found.result.now = subst (StandBehind circuit slots.done) (sym c.found.ensures) (StandBehind-sorted circuit out slots.done search c.requires.ordered c.sort.ensures.sorted gathered) in
-    let lent : c.as_mut_slice.result.now ≡ slots.values = c.as_mut_slice.ensures.value ∙ ap (λ (s : Slotted). s.values) c.self.view_is in
-    let first : AreRight circuit state c.as_mut_slice.result.now (λ s. is_marked slots.done s ≡ true) = subst (λ (l : List ℕ). AreRight circuit state l (λ s. is_marked slots.done s ≡ true)) (sym lent) c.requires.cycle.right in
-    let right : AreRight circuit state values (λ s. (is_marked slots.done s ≡ true) ⊎ Contains search.found s) =
-    subst (λ (l : List ℕ). AreRight circuit state values (λ s. (is_marked slots.done s ≡ true) ⊎ Contains l s)) c.found.ensures (c.work_out.ensures.right slots.done behind first) in
-    let count : length values ≡ c.self.inside.values.len = omega (arith, c.work_out.auto.values, ap (λ (l : List ℕ). length l) c.as_mut_slice.ensures.value, c.self.inside.values.ok.0) in
-    let space : length room ≡ c.self.inside.room.len = omega (arith, c.work_out.auto.room, ap (λ (l : List ℕ). length l) c.as_mut_slice-2.ensures.value, c.self.inside.room.ok.0) in
-    let same : length room ≡ slots.room = omega (arith, space, c.self.inside.room.ok.0, ap (λ (s : Slotted). s.room) c.self.view_is) in
-    subst (λ (l : List ℕ). InCycle circuit state (record { values = l; done = c.forget.new.self.marks; room = length (with_items c.self.inside.room room).items })) (sym (with_items_is c.self.inside.values values count))
-    (subst (λ (l : List ℕ). InCycle circuit state (record { values = values; done = c.forget.new.self.marks; room = length l })) (sym (with_items_is c.self.inside.room room space))
-    (subst (λ (l : List Bool). InCycle circuit state (record { values = values; done = l; room = length room })) (sym c.forget.ensures.marks)
-    (InCycle-reached circuit state out slots search values (length room) c.requires.cycle.held same c.work_out.ensures.typed gathered right)))
+    let lent : c.self.inside.cells.values ≡ slots.values = ap (λ (s : Slotted). s.values) c.self.view_is in
+    let first : AreRight circuit state c.self.inside.cells.values (λ s. is_marked slots.done s ≡ true) = subst (λ (l : List ℕ). AreRight circuit state l (λ s. is_marked slots.done s ≡ true)) (sym lent) c.requires.cycle.right in
+    let right : AreRight circuit state cells.values (λ s. (is_marked slots.done s ≡ true) ⊎ Contains search.found s) =
+    subst (λ (l : List ℕ). AreRight circuit state cells.values (λ s. (is_marked slots.done s ≡ true) ⊎ Contains l s)) c.found.ensures (c.work_out.ensures.right slots.done behind first) in
+    let same : cells.room ≡ slots.room = c.work_out.ensures.room ∙ ap (λ (s : Slotted). s.room) c.self.view_is in
+    subst (λ (l : List Bool). InCycle circuit state (record { values = cells.values; done = l; room = cells.room })) (sym c.forget.ensures.marks)
+    (InCycle-reached circuit state out slots search cells.values cells.room c.requires.cycle.held same c.work_out.ensures.typed gathered right)
 
 pub returns-clause-steps : goal.returns-clause-steps
 returns-clause-steps g c =
@@ -67,5 +60,5 @@ returns-clause-done g c =
     let search = c.sort.new.self in
     let moved = IsGathered-moved circuit out c.self.inside.search.marks c.gather.new.self search c.sort.ensures.marks c.sort.ensures.same c.gather.ensures in
     let gathered : IsGathered circuit out slots.done search = subst (λ (s : Slotted). IsGathered circuit out s.done search) c.self.view_is moved in
-    let after : Slotted = record { values = (with_items c.self.inside.values c.work_out.new.values).items; done = c.forget.new.self.marks; room = length (with_items c.self.inside.room c.work_out.new.room).items } in
+    let after : Slotted = record { values = c.work_out.new.cells.values; done = c.forget.new.self.marks; room = c.work_out.new.cells.room } in
     DoneWith-gathered circuit out slots after search gathered c.forget.ensures.marks

@@ -1,0 +1,5 @@
+mod TypeLemmas
+mod RunLemmas
+mod TellLemmas
+pub mod TapeLemmas
+mod CellsLemmas

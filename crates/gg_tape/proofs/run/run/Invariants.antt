@@ -1,0 +1,8 @@
+use Rattle.std.proofs.Common.{List, length, take, drop}
+use Rattle.gg_flat.specs.declared.line.Node.{Node}
+use Rattle.gg_tape.specs.inside.Told.{CanRun}
+use Rattle.gg_tape.proofs.RunLemmas.{IsRunning}
+use Rattle.gg_tape.proofs.run.run.Given as goal
+
+abbrev pub invariant-loop-instruction : goal.invariant-loop-instruction
+invariant-loop-instruction l = IsRunning l._signals l.literals l.instructions l.fn.cells.items l.instruction-index l.cells.items l.value

@@ -1,0 +1,5 @@
+use Rattle.gg_tape.specs.inside.Tape.{signals_of, IsTape, AreNumbers}
+use Rattle.gg_tape.proofs.tape.Tape.whole.Given as goal
+
+abbrev pub invariant-loop-signal : goal.invariant-loop-signal
+invariant-loop-signal l = IsTape l.piece l.tape × AreNumbers l.signal (signals_of l.tape)

@@ -1,0 +1,5 @@
+-- Definitions that no promise of the program speaks of: those of single functions, and those of proofs.
+pub mod Instruction
+pub mod Told
+pub mod Cells
+pub mod Tape

@@ -1,4 +1,0 @@
-use Rattle.gg_workers.proofs.run.work.Given as goal
-
-abbrev pub ghosts-run_net : goal.ghosts-run_net
-ghosts-run_net g a = record { start = a.net }

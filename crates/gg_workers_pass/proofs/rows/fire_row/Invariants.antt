@@ -1,0 +1,14 @@
+use Rattle.std.proofs.Common.{◌≡◌, ◌≤◌, length, slice_set}
+use Rattle.std.specs.Prelude.{max, min}
+use Rattle.gg_node.specs.Machine.{machine_at}
+use Rattle.gg_workers_pass.specs.inside.Rows.{FiresTried, StepsDone}
+use Rattle.gg_workers_pass.proofs.rows.fire_row.Given as goal
+
+abbrev pub invariant-loop-place : goal.invariant-loop-place
+invariant-loop-place g l = record {
+  tried : FiresTried g.L.Link.puts_into g.L.Link.putting g.Z.Streams.flow g.E.Era.start l._machine l.links l.outs l.first l.place (machine_at (g.H.Host.machines l.initial.host) l.thread) l.initial.seats.items (machine_at (g.H.Host.machines l.host) l.thread) l.seats.items;
+  alone : g.H.Host.machines l.host ≡ slice_set (g.H.Host.machines l.initial.host) l.thread (machine_at (g.H.Host.machines l.host) l.thread);
+  from : l.first ≤ l.place;
+  upto : l.place ≤ max l.first (min l.past (length l.outs));
+  done : StepsDone (g.H.Host.machines l.initial.host) l.thread (g.H.Host.machines l.host) l.stepped;
+}
