@@ -1,5 +1,5 @@
 //! The command `check`.
-ghost use Rattle.std.specs.Prelude.{◌≤◌, ℕ, List};
+ghost use Rattle.std.specs.Prelude.{ℕ, List};
 ghost use Rattle.gg_words.specs.Range.{IsCapacity};
 ghost use Rattle.golden_commands.specs.Case.{IsCase};
 ghost use Rattle.golden_commands.specs.Check.{IsCutTextOf};

@@ -1,5 +1,5 @@
 //! The command `replay`.
-ghost use Rattle.std.specs.Prelude.{◌≤◌, ℕ, List};
+ghost use Rattle.std.specs.Prelude.{ℕ, List};
 ghost use Rattle.gg_io.specs.Ends.{loads_of, puts_of};
 ghost use Rattle.gg_io.specs.inside.Endings.{EndedOn, PrintsOrStops, said_by};
 ghost use Rattle.gg_io.specs.Order.{Load, Write};

@@ -2,7 +2,6 @@
 ghost use Rattle.std.specs.Prelude.{◌≡◌, ◌≤◌, ℕ, List, None, IfErr, IfOk};
 ghost use Rattle.gg_build.specs.Build.{run_token};
 ghost use Rattle.gg_cut_plan.specs.Bridges.{Models};
-ghost use Rattle.gg_bits.specs.Limits.{cycle_limit};
 ghost use Rattle.gg_build.specs.StandsAt.{StandsAt};
 ghost use Rattle.gg_io.specs.inside.Endings.{EndedOn, IfRefused, PrintsOrStops};
 ghost use Rattle.gg_io.specs.Ends.{loads_of, puts_of};

@@ -1,14 +1,16 @@
 //! `Bridges`: bridges to hand in, each with its name.
-ghost use Rattle.std.specs.Prelude.{◌≡◌, ◌++◌, ◌∷◌, [], true, MatchResult, string_bytes};
+ghost use Rattle.std.specs.Prelude.{◌≡◌, ◌+◌, ◌++◌, ◌∷◌, [], IfOk, MatchResult, length};
+ghost use Rattle.std.specs.List.{list_all};
 ghost use Rattle.gg_bits.specs.inside.Firsts.{Tells};
 ghost use Rattle.gg_flat.specs.State.{opening};
 ghost use Rattle.golden_commands.specs.Handed.{is_word_byte};
 ghost use Rattle.golden_commands.specs.Bridges.{CanHandIn};
-ghost use Rattle.golden_commands.specs.inside.HandFault.{hand_fault, has_name, is_taken, said_by};
+ghost use Rattle.golden_commands.specs.declared.bridges.HandFault.TheVariants.{NoMemory};
+ghost use Rattle.golden_commands.specs.inside.HandFault.{hand_fault, has_name, is_taken, said_by, signals_of};
 
 use gg_bits::Name;
 use gg_bridge::Bridge;
-use std::alloc::Global;
+use std::alloc::{AllocError, Global};
 use std::marker::Model;
 use thiserror::Error;
 
@@ -30,6 +32,14 @@ pub enum HandFault {
     /// An allocation failed.
     #[error("out of memory")]
     NoMemory,
+}
+
+impl From<AllocError> for HandFault {
+    ghost from_gives = { λ _ fault. fault ≡ NoMemory };
+
+    fn from(_error: AllocError) -> HandFault {
+        HandFault::NoMemory
+    }
 }
 
 /// Bridges to hand in, each with its name. They can be handed in to `golden_with` (`CanHandIn`): nothing is owed of them any more.
@@ -64,16 +74,19 @@ fn is_word_byte(byte: u8) -> bool
     byte.is_ascii_alphanumeric() || byte == b'_'
 }
 
+// Whether each of these bytes is one.
+fn are_word_bytes(bytes: &[u8]) -> bool
+    ensures { result ≡ list_all is_word_byte bytes.now }
+{
+    bytes.iter().all(|byte| is_word_byte(*byte))
+}
+
 // Whether a bridge can have this name.
 fn is_name(name: &str) -> bool
     ensures { result ≡ has_name name.now }
 {
-    match name.as_bytes() {
-        [first, rest @ ..] => {
-            is_word_byte(*first) && rest.iter().all(|byte| is_word_byte(*byte))
-        }
-        [] => false,
-    }
+    let bytes = name.as_bytes();
+    !bytes.is_empty() && are_word_bytes(bytes)
 }
 
 impl<B: Bridge + Drop> Bridges<B> {
@@ -94,16 +107,10 @@ impl<B: Bridge + Drop> Bridges<B> {
         self.named.iter().any(|pair| pair.0.as_str() == name)
     }
 
-    /// Adds a bridge that is in the state of zeros. Its name has ASCII letters, digits and `_`, at least one of them, and no other bridge has it.
-    ///
-    /// # Errors
-    ///
-    /// Returns the first `HandFault` of `Name`, `Taken`, `TooLarge`, exactly if there is one, or `NoMemory` if an allocation fails. The bridge is then
-    /// given up, and the others stay.
-    pub fn add(&mut self, alloc: Global, name: &str, bridge: B) -> Result<(), HandFault>
-        requires { B.state bridge ≡ opening (B.piece bridge) }
-        ensures fault { Tells said_by (hand_fault B.piece self.old name.now bridge) result }
-        ensures added { MatchResult result (λ _. self.new ≡ self.old ++ (name.now, bridge) ∷ []) (λ _. self.new ≡ self.old) }
+    // The number of signals of the models with that of one more bridge, if it can have this name.
+    fn signals_with(&self, name: &str, bridge: &B) -> Result<u64, HandFault>
+        ensures fault { Tells said_by (hand_fault B.piece self.now name.now bridge.now) result }
+        ensures counts { IfOk result (λ signals. signals ≡ signals_of B.piece self.now + length (B.piece bridge.now).signals) }
     {
         if !is_name(name) {
             return Err(HandFault::Name);
@@ -115,10 +122,23 @@ impl<B: Bridge + Drop> Bridges<B> {
         if signals > MOST_SIGNALS {
             return Err(HandFault::TooLarge);
         }
-        let Ok(name) = Name::from_str(alloc, name) else {
-            return Err(HandFault::NoMemory);
-        };
-        match self.named.push((name, bridge)) {
+        Ok(signals)
+    }
+
+    /// Adds a bridge that is in the state of zeros. Its name has ASCII letters, digits and `_`, at least one of them, and no other bridge has it.
+    ///
+    /// # Errors
+    ///
+    /// Returns the first `HandFault` of `Name`, `Taken`, `TooLarge`, exactly if there is one, or `NoMemory` if an allocation fails. The bridge is then
+    /// given up, and the others stay.
+    pub fn add(&mut self, alloc: Global, name: &str, bridge: B) -> Result<(), HandFault>
+        requires { B.state bridge ≡ opening (B.piece bridge) }
+        ensures fault { Tells said_by (hand_fault B.piece self.old name.now bridge) result }
+        ensures added { MatchResult result (λ _. self.new ≡ self.old ++ (name.now, bridge) ∷ []) (λ _. self.new ≡ self.old) }
+    {
+        let signals = self.signals_with(name, &bridge)?;
+        let own = Name::from_str(alloc, name)?;
+        match self.named.push((own, bridge)) {
             Ok(()) => {
                 self.signals = signals;
                 Ok(())

@@ -1,5 +1,5 @@
 //! Printing of a plan: a line for each machine, then a line for each channel.
-ghost use Rattle.std.specs.Prelude.{ℕ, flat_map};
+ghost use Rattle.std.specs.Prelude.{flat_map};
 ghost use Rattle.gg_cut_reference.specs.inside.PlanText.{channel_names, line_of_channel, line_of_machine, machine_names, plan_text};
 ghost use Rattle.gg_io.specs.inside.Endings.{PrintsOn};
 ghost use Rattle.gg_io.specs.WentOn.{SinkWentOn};

@@ -1,5 +1,5 @@
 //! The models of the bridges that are handed in.
-ghost use Rattle.std.specs.Prelude.{◌≡◌, ◌++◌, ◌∷◌, [], All, IfOk, OnOk};
+ghost use Rattle.std.specs.Prelude.{◌≡◌, ◌++◌, ◌∷◌, [], IfOk, OnOk};
 ghost use Rattle.gg_bridge.specs.Model.{IsModel};
 ghost use Rattle.golden_commands.specs.Bridges.{CanHandIn};
 ghost use Rattle.golden_commands.specs.inside.Bridges.{HaveModels};

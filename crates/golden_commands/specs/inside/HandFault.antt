@@ -1,6 +1,6 @@
 -- Whether a bridge can be handed in beside others.
 -- Source: none; the form of a name and the limit are this program's own.
-use Rattle.std.specs.Prelude.{◌≡◌, ℕ, ◌+◌, Bool, false, not, if◌then◌else◌, List, [], ◌∷◌, length, map, sum, Option, Some, None, bytes_eq, nat_lt}
+use Rattle.std.specs.Prelude.{◌≡◌, ℕ, ◌+◌, Bool, not, ◌&&◌, ◌==◌, if◌then◌else◌, List, length, map, sum, Option, Some, None, bytes_eq, nat_lt}
 use Rattle.std.specs.List.{list_all, list_any}
 use Rattle.gg_flat.specs.Circuit.{FlatCircuit}
 use Rattle.gg_flat.specs.State.{State}
@@ -11,8 +11,7 @@ use Rattle.golden_commands.specs.declared.bridges.HandFault.TheVariants.{Name, T
 
 -- the name has an ASCII letter, a digit or `_`, and no other byte
 abbrev pub has_name : List ℕ → Bool
-has_name [] = false
-has_name (byte ∷ name) = list_all is_word_byte (byte ∷ name)
+has_name name = not (length name == 0) && list_all is_word_byte name
 
 -- one of these bridges has the name
 abbrev pub is_taken : {B : Type 0} → List (List ℕ × B) → List ℕ → Bool

@@ -1,7 +1,7 @@
 -- More on Replay: what no promise of the program's speaks of.
 -- Sources: MEMOCODE 2009 (the k-th token of each channel is the value of its signal in cycle k, in any order of steps).
 -- The lines and the forms of a steps file are this program's own.
-use Rattle.std.specs.Prelude.{ℕ, ◌-◌, List}
+use Rattle.std.specs.Prelude.{ℕ, List}
 use Rattle.gg_io.specs.Order.{IsOnly}
 use Rattle.golden_commands.specs.Partition.{Known}
 use Rattle.golden_commands.specs.Replay.{AreDone, IsReplayOf}
