@@ -30,7 +30,7 @@ use Rattle.gg_types.proofs.PlaceLemmas.{same_bytes}
 use Rattle.gg_elab_sites.specs.Sites.{Held, held, held_by, held_by_kind, module_at}
 use Rattle.gg_elab_sites.specs.Known.{types_of, value_shape}
 use Rattle.gg_elab_sites.proofs.NameLemmas.{Differ}
-use Rattle.gg_elab_tree.proofs.DeclaredLemmas.{made-by, one-statement, held-named}
+use Rattle.gg_elab_tree.proofs.NamesLemmas.DeclaredLemmas.{made-by, one-statement, held-named}
 
 -- ---- a name that is known has an entry
 

@@ -35,7 +35,7 @@ use Rattle.gg_elab_tree.proofs.InstanceLemmas.{held_at-place, instance-for, rang
 use Rattle.gg_elab_tree.proofs.OwnLemmas.{own_in, own-inside, own-signal, placed-known}
 use Rattle.gg_elab_tree.proofs.PlaceLemmas.{Placed}
 use Rattle.gg_elab_tree.proofs.RangeLemmas.{Ranges, count_to, placed-at}
-use Rattle.gg_elab_tree.proofs.RegisterClockLemmas.{HoldsAs, clocks-at, clocks-count, held-as, held-follows}
+use Rattle.gg_elab_tree.proofs.WellFormedLemmas.RegisterClockLemmas.{HoldsAs, clocks-at, clocks-count, held-as, held-follows}
 use Rattle.gg_elab_tree.proofs.StopLemmas.{asked-place, holder-of}
 use Rattle.gg_elab_tree.proofs.ScopeOfTreeLemmas.{HasApartNames}
 use Rattle.gg_elab_tree.proofs.TreeLemmas.{HasDistinctPaths, HasPlainNames, OwnPlace, flat-memory-count, holder-is, memory-is, no_own, number-is, own-place-of}

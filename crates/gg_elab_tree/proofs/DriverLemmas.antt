@@ -50,12 +50,12 @@ use Rattle.gg_elab_tree.proofs.InstanceLemmas.{signals_in, ranges, instance-for}
 use Rattle.gg_elab_tree.proofs.OwnLemmas.{own_in, own-signal, own-inside, own-place, placed-known, Pairwise-at, front}
 use Rattle.gg_elab_tree.proofs.TreeLemmas.{HasDistinctPaths, HasPlainNames, no_own, no_port, OwnPlace, own-place-of, port-at}
 use Rattle.gg_elab_tree.proofs.ScopeOfTreeLemmas.{HasApartNames, own-is-innermost, ins-of, outs-of, port-of, ports_once-of, field-of, fields_once-of}
-use Rattle.gg_elab_tree.proofs.NamedLemmas.{named-of, apart-of}
+use Rattle.gg_elab_tree.proofs.NamesLemmas.NamedLemmas.{named-of, apart-of}
 use Rattle.gg_elab_tree.proofs.VisibleLemmas.{HasKnownNames, IsPlain, IsPlainReference, visible}
 use Rattle.gg_elab_tree.proofs.StopLemmas.{stop-of, stops_once-of}
 use Rattle.gg_elab_tree.proofs.StopOutLemmas.{outs-with-stops}
 use Rattle.gg_elab_tree.proofs.StopOwnLemmas.{all-cause}
-use Rattle.gg_elab_tree.proofs.CauseLemmas.{name-some, name-dotless, AreNamesOfConnection, connected-names, statements-named, IsNamed, AreNamed, port-cause, port-count}
+use Rattle.gg_elab_tree.proofs.NamesLemmas.CauseLemmas.{name-some, name-dotless, AreNamesOfConnection, connected-names, statements-named, IsNamed, AreNamed, port-cause, port-count}
 
 -- a name isn't empty and has no dot; the same of each name of a reference
 plain-name : (a : List ℕ) → IsName a → IsPlain a

@@ -17,7 +17,7 @@ use Rattle.gg_elab_sites.specs.IsFlat.{number_of, reader_of, writer_of}
 use Rattle.gg_types.specs.Memories.{Bank, bank_of}
 use Rattle.gg_elab_sites.specs.Signals.{Types, Own, OwnBank, own_bank, own_banks, own_of_kind, bank_of_kind, memory_signals, readers_signals, writer_signals, field_name}
 use Rattle.gg_elab_tree.proofs.ElementLemmas.{value_or}
-use Rattle.gg_elab_tree.proofs.JoinLemmas.{joined-behind}
+use Rattle.gg_elab_tree.proofs.NamesLemmas.JoinLemmas.{joined-behind}
 use Rattle.gg_elab_tree.proofs.OwnLemmas.{front}
 
 -- the own signals of a memory's statement are the memory's fields

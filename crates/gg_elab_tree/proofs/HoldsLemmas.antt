@@ -13,7 +13,7 @@ use Rattle.gg_elab_tree.specs.IsTreeOf.{IsTreeOf}
 use Rattle.gg_elab_tree.proofs.ClockedLemmas.{clocked-of}
 use Rattle.gg_elab_tree.proofs.DriverLemmas.{scoped-of}
 use Rattle.gg_elab_sites.proofs.NameLemmas.{Differ}
-use Rattle.gg_elab_tree.proofs.SoundLemmas.{plain-names, apart-names, known-names}
+use Rattle.gg_elab_tree.proofs.NamesLemmas.SoundLemmas.{plain-names, apart-names, known-names}
 use Rattle.gg_elab_tree.proofs.TreeLemmas.{HasDistinctPaths, tree-of}
 
 module _ (circuit : CircuitTree) (flat : FlatCircuit) (tree : InstanceTree) (top : ℕ) (known_top : place_of circuit.name (module_names circuit) ≡ Some top) (is_flat : IsFlat circuit flat) (is_tree : IsTreeOf circuit tree) (signals : Differ flat.paths) (instances : Differ tree.paths) (memories : Differ tree.memory_paths) (are_names : AreNamesOfCircuit circuit) (once : repetitions circuit ≡ []) where

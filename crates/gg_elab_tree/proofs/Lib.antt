@@ -1,7 +1,6 @@
-pub mod CauseLemmas
+pub mod NamesLemmas
 pub mod ChildLemmas
 pub mod ClockedLemmas
-pub mod DeclaredLemmas
 pub mod DriverLemmas
 pub mod EachTreeLemmas
 pub mod ElementLemmas
@@ -10,16 +9,13 @@ pub mod FieldLemmas
 pub mod HeldMemoryLemmas
 pub mod HoldsLemmas
 pub mod InstanceLemmas
-pub mod JoinLemmas
 pub mod KeptLemmas
-pub mod NamedLemmas
 pub mod OwnLemmas
 pub mod PairwiseLemmas
 pub mod PlaceLemmas
 pub mod RangeLemmas
-pub mod RegisterClockLemmas
+pub mod WellFormedLemmas
 pub mod ScopeOfTreeLemmas
-pub mod SoundLemmas
 pub mod StopLemmas
 pub mod StopOutLemmas
 pub mod StopOwnLemmas
@@ -29,21 +25,6 @@ pub mod TreeJoinLemmas
 pub mod TreeLemmas
 pub mod TreePartLemmas
 pub mod VisibleLemmas
-pub mod WordLemmas
 mod WorkedStopTree
 mod WorkedTree
-pub mod ApartLemmas
-pub mod BankFieldLemmas
-pub mod CircuitFormedLemmas
-pub mod ClockFormLemmas
-pub mod DifferLemmas
-pub mod DriveLemmas
-pub mod FormedLemmas
-pub mod HeldLemmas
-pub mod ModuleNameLemmas
-pub mod OutsideLemmas
-pub mod PortNameLemmas
-pub mod SignalPathLemmas
-pub mod StopNameLemmas
-pub mod TopLemmas
 mod WorkedHeld

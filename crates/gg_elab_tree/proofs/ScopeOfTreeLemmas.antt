@@ -30,7 +30,7 @@ use Rattle.gg_elab_tree.proofs.InstanceLemmas.{signals_in, top_placed, instance-
 use Rattle.gg_elab_tree.proofs.OwnLemmas.{own_in, own-count, own-place, placed-known, port-own, front}
 use Rattle.gg_elab_tree.proofs.HeldMemoryLemmas.{banks_in, MemoryPlace, memory-place}
 use Rattle.gg_elab_tree.proofs.TreeLemmas.{HasDistinctPaths, HasPlainNames, no_own, Pairwise-other, path-is, port-at, signal-path, memory-path, holder-is, number-is, memory-is, flat-memory-count}
-use Rattle.gg_elab_tree.proofs.JoinLemmas.{joined-behind, within-dot}
+use Rattle.gg_elab_tree.proofs.NamesLemmas.JoinLemmas.{joined-behind, within-dot}
 use Rattle.gg_elab_tree.proofs.FieldLemmas.{StandTogether, bank-together, together-within, number_behind, field-numbers, FieldName, memory-field, FieldPlace}
 
 -- The names of each module are apart: a port's name has no dot; each own signal has a name without a dot or is a field of one of

@@ -20,12 +20,12 @@ use Rattle.gg_elab_sites.specs.IsFlat.{IsFlat}
 use Rattle.gg_elab_sites.specs.Known.{types_of}
 use Rattle.gg_elab_sites.specs.Signals.{Own, OwnStop, own_of_kind, own_of_port, own_stops, stop_signal, memory_signals}
 use Rattle.gg_elab_tree.specs.IsTreeOf.{HeldStop, IsPortFor, IsStopFor, IsTreeOf, Pairwise, held_stop, held_stops, signal_paths, signal_ports}
-use Rattle.gg_elab_tree.proofs.CauseLemmas.{port-count}
+use Rattle.gg_elab_tree.proofs.NamesLemmas.CauseLemmas.{port-count}
 use Rattle.gg_elab_tree.proofs.ElementLemmas.{element}
 use Rattle.gg_elab_tree.proofs.FieldLemmas.{FieldName, memory-field}
 use Rattle.gg_elab_tree.proofs.HeldMemoryLemmas.{memory-place}
 use Rattle.gg_elab_tree.proofs.InstanceLemmas.{signals_in, path-place, stands, instance-for}
-use Rattle.gg_elab_tree.proofs.JoinLemmas.{dot-within}
+use Rattle.gg_elab_tree.proofs.NamesLemmas.JoinLemmas.{dot-within}
 use Rattle.gg_elab_tree.proofs.OwnLemmas.{own_in, own-count, own-place, placed-known, count-next, Pairwise-at}
 use Rattle.gg_elab_tree.proofs.PairwiseLemmas.{Pairwise-length}
 use Rattle.gg_elab_tree.proofs.PlaceLemmas.{Placed}

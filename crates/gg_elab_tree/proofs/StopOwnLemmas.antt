@@ -11,10 +11,10 @@ use Rattle.gg_ast.specs.declared.statement.StmtKind.TheVariants as says
 use Rattle.gg_elab_sites.specs.Signals.{Types, Asked, Own, OwnStop, own_of_kind, own_stops, statement_signals, stop_of_kind, stop_signal}
 use Rattle.gg_elab_sites.proofs.AmongLemmas.{element-at, from-filter_map, from-map}
 use Rattle.gg_elab_sites.proofs.StopLemmas.{numbered-among, stop_name-plain, stop_name-colon}
-use Rattle.gg_elab_tree.proofs.CauseLemmas.{AreHad, AreNamed, IsNamed, named-append, statements-cause}
+use Rattle.gg_elab_tree.proofs.NamesLemmas.CauseLemmas.{AreHad, AreNamed, IsNamed, named-append, statements-cause}
 use Rattle.gg_elab_tree.proofs.FieldLemmas.{FieldPlace}
 use Rattle.gg_elab_tree.proofs.OwnLemmas.{front}
-use Rattle.gg_elab_tree.proofs.WordLemmas.{DeclaredIn, statement-own}
+use Rattle.gg_elab_tree.proofs.NamesLemmas.WordLemmas.{DeclaredIn, statement-own}
 
 -- ---- names
 

@@ -22,7 +22,7 @@ use Rattle.gg_elab_sites.specs.Known.{types_of}
 use Rattle.gg_elab_sites.specs.Signals.{Own, OwnBank}
 use Rattle.gg_elab_sites.proofs.NameLemmas.{place_of-path}
 use Rattle.gg_elab_tree.proofs.PairwiseLemmas.{Pairwise-length}
-use Rattle.gg_elab_tree.proofs.JoinLemmas.{joined-once, joined-some, joined-twice}
+use Rattle.gg_elab_tree.proofs.NamesLemmas.JoinLemmas.{joined-once, joined-some, joined-twice}
 use Rattle.gg_elab_tree.proofs.PlaceLemmas.{Placed, Under}
 use Rattle.gg_elab_tree.proofs.RangeLemmas.{count_to, Ranges, owner, placed-same, own-innermost}
 use Rattle.gg_elab_tree.proofs.InstanceLemmas.{signals_in, top_placed, held_at-place, path-place, ranges, instance-for, stands}

@@ -17,7 +17,7 @@ use Rattle.gg_elab_sites.specs.Known.{types_of}
 use Rattle.gg_elab_sites.specs.Clocks.{own_clocks}
 use Rattle.gg_elab_sites.proofs.FollowLemmas.{around-length, input_count}
 use Rattle.gg_elab_tree.specs.IsTreeOf.{IsParent, IsTreeOf, Pairwise, site_paths}
-use Rattle.gg_elab_tree.proofs.JoinLemmas.{joined-once}
+use Rattle.gg_elab_tree.proofs.NamesLemmas.JoinLemmas.{joined-once}
 use Rattle.gg_elab_tree.proofs.StopLemmas.{AskedPlace, asked-place, before_stops, holder-of, signal-of, stop-again}
 use Rattle.gg_elab_tree.proofs.InstanceLemmas.{signals_in, sites-are, stands, ranges, instance-for, path-place}
 use Rattle.gg_elab_tree.proofs.OwnLemmas.{placed-known, Pairwise-at}

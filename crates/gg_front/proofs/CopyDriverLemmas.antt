@@ -38,8 +38,8 @@ use Rattle.gg_elab_sites.specs.Signals.{Types, Own, own_signals, FromOutside, fi
 use Rattle.gg_elab_sites.proofs.AmongLemmas.{element-at}
 use Rattle.gg_elab_sites.proofs.NameLemmas.{Differ, place_of-at}
 use Rattle.gg_elab_tree.specs.IsTreeOf.{Pairwise, clocks_held}
-use Rattle.gg_elab_tree.proofs.RegisterClockLemmas.{clocks-at}
-use Rattle.gg_elab_tree.proofs.JoinLemmas.{joined-behind}
+use Rattle.gg_elab_tree.proofs.WellFormedLemmas.RegisterClockLemmas.{clocks-at}
+use Rattle.gg_elab_tree.proofs.NamesLemmas.JoinLemmas.{joined-behind}
 use Rattle.gg_elab_tree.proofs.OwnLemmas.{Pairwise-at}
 use Rattle.gg_elab_tree.proofs.PairwiseLemmas.{Pairwise-length}
 use Rattle.gg_part.specs.Moved.{IsMoved, shifted, unclocked_memory, unclocked_reader, unclocked_register, unclocked_writer}

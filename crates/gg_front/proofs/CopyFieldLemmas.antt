@@ -11,8 +11,8 @@ use Rattle.gg_elab_sites.specs.Flat.{Drive, Answers, Outside, Gets, Holds, FlatS
 use Rattle.gg_types.specs.Memories.{Bank}
 use Rattle.gg_elab_sites.specs.Signals.{Types, Cause, FromOutside, Connected, Expressed, Kept, Answered, Own, OwnBank, own_signals, own_banks, reader_signals, writer_signals, field_name}
 use Rattle.gg_elab_sites.proofs.AmongLemmas.{in-flat_map, from-flat_map, from-map}
-use Rattle.gg_elab_tree.proofs.BankFieldLemmas.{bank-signal, reader-among, writer-among}
-use Rattle.gg_elab_tree.proofs.JoinLemmas.{joined-behind}
+use Rattle.gg_elab_tree.proofs.WellFormedLemmas.BankFieldLemmas.{bank-signal, reader-among, writer-among}
+use Rattle.gg_elab_tree.proofs.NamesLemmas.JoinLemmas.{joined-behind}
 use Rattle.gg_front.proofs.CopyDriverLemmas.{Stretch, stretch-at, stretch-inside}
 
 -- what is in a stretch stands there

@@ -20,7 +20,7 @@ use Rattle.gg_elab_sites.specs.Known.{types_of}
 use Rattle.gg_elab_sites.specs.Signals.{Cause, FromOutside, Own, cause_of_port}
 use Rattle.gg_elab_sites.proofs.NameLemmas.{place_of-at}
 use Rattle.gg_elab_tree.specs.IsTreeOf.{IsTreeOf, IsPortFor, Pairwise, signal_paths, signal_ports}
-use Rattle.gg_elab_tree.proofs.CauseLemmas.{IsNamed}
+use Rattle.gg_elab_tree.proofs.NamesLemmas.CauseLemmas.{IsNamed}
 use Rattle.gg_elab_tree.proofs.DriverLemmas.{own-cases, port-is-input, port-own-cause, goes-in}
 use Rattle.gg_elab_tree.proofs.InstanceLemmas.{signals_in, instance-for}
 use Rattle.gg_elab_tree.proofs.OwnLemmas.{own_in, own-place, Pairwise-at}

@@ -28,10 +28,10 @@ use Rattle.gg_elab_sites.specs.IsFlat.{IsFlat, IsMemoryOf, memory_paths, top_por
 use Rattle.gg_elab_sites.specs.Known.{types_of}
 use Rattle.gg_elab_sites.specs.Signals.{Cause, Answered, Own, cause_of_port, field_name}
 use Rattle.gg_elab_sites.proofs.AmongLemmas.{Element, element-at, MadeOf, from-map, from-flat_map}
-use Rattle.gg_elab_tree.proofs.BankFieldLemmas.{AnswerAmong, answer-among}
+use Rattle.gg_elab_tree.proofs.WellFormedLemmas.BankFieldLemmas.{AnswerAmong, answer-among}
 use Rattle.gg_elab_tree.specs.IsTreeOf.{IsTreeOf, IsPortFor, Pairwise, clocks_held, signal_paths, signal_ports, memories_of}
 use Rattle.gg_elab_tree.proofs.HeldMemoryLemmas.{memory-count, memory-number, memory-place}
-use Rattle.gg_elab_tree.proofs.CauseLemmas.{IsNamed}
+use Rattle.gg_elab_tree.proofs.NamesLemmas.CauseLemmas.{IsNamed}
 use Rattle.gg_elab_tree.proofs.DriverLemmas.{own-cases, port-own-cause}
 use Rattle.gg_elab_tree.proofs.InstanceLemmas.{signals_in, stands, ranges, instance-for}
 use Rattle.gg_elab_tree.proofs.OwnLemmas.{own_in, placed-known, Pairwise-at}

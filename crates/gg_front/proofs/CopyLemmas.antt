@@ -11,7 +11,7 @@ use Rattle.gg_elab_sites.specs.Connection.{Connection, ConnectedTo, connection_i
 use Rattle.gg_elab_sites.specs.Flat.{Drive, scope_at, scope_around, Gets, Holds, flat_signal, drive_of, signals_at, flat_signals, input_drive, flat_memory, memories_at, flat_memories}
 use Rattle.gg_elab_sites.specs.Signals.{Types, Cause, FromOutside, Connected, Expressed, Kept, Answered, Own, own_signals, OwnBank, own_banks, dotted, field_name}
 use Rattle.gg_elab_tree.specs.IsTreeOf.{Pairwise}
-use Rattle.gg_elab_tree.proofs.JoinLemmas.{joined-twice}
+use Rattle.gg_elab_tree.proofs.NamesLemmas.JoinLemmas.{joined-twice}
 use Rattle.gg_elab_tree.proofs.PairwiseLemmas.{Pairwise-append}
 use Rattle.gg_front.proofs.LikeSites.{AreLikeScopes, AreLikeDrives, AreLikeSignals, AreLikeMemories, AreLikeSites}
 use Rattle.gg_front.proofs.LikeSites as like

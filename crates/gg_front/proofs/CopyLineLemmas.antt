@@ -23,7 +23,7 @@ use Rattle.gg_elab_sites.specs.Flat.{Scope}
 use Rattle.gg_elab_sites.specs.Lines.{Laid, laid_node, laid, with_laid, with_signal, with_literal, with_result, with_term, last_of, cut_line, taken_line, connected_line, condition_line}
 use Rattle.gg_elab_sites.specs.Meaning.{Signals, Bindings, in_scope, named, named_if, shape_named, accepted, term_shape, takes, TermNames, ConnectionNames}
 use Rattle.gg_elab_sites.proofs.NameLemmas.{Differ, place_of-at, place_of-path}
-use Rattle.gg_elab_tree.proofs.ApartLemmas.{joined-same}
+use Rattle.gg_elab_tree.proofs.NamesLemmas.ApartLemmas.{joined-same}
 use Rattle.gg_part.specs.Moved.{shifted}
 use Rattle.gg_front.proofs.LikeSites.{AreLikeScopes}
 use Rattle.gg_elab_sites.proofs.OneLemmas.{line-same}

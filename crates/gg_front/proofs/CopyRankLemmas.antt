@@ -12,8 +12,8 @@ use Rattle.gg_ast.specs.Tree.{CircuitTree, ModuleTree, empty_module}
 use Rattle.gg_flat.proofs.ListLemmas.{Contains-map, Contains-cases}
 use Rattle.gg_elab_sites.specs.Sites.{Held, held_at, held_by, module_at}
 use Rattle.gg_elab_sites.specs.inside.Sites.{HoldsModule}
-use Rattle.gg_elab_tree.proofs.CauseLemmas.{name-some, statements-named}
-use Rattle.gg_elab_tree.proofs.WordLemmas.{held-word}
+use Rattle.gg_elab_tree.proofs.NamesLemmas.CauseLemmas.{name-some, statements-named}
+use Rattle.gg_elab_tree.proofs.NamesLemmas.WordLemmas.{held-word}
 use Rattle.gg_graph.specs.inside.Graph.{IsOrderOf}
 use Rattle.gg_front.proofs.CopyLemmas.{HasSomeNames}
 use Rattle.gg_front.proofs.CopyPlaceLemmas.{AreRanked}

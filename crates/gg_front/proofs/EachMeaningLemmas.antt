@@ -17,13 +17,13 @@ use Rattle.gg_order.proofs.FoundLemmas.{found-is}
 use Rattle.gg_read.proofs.NamesSpelt.{circuit-named}
 use Rattle.gg_shape.specs.Shape.{missing_top, named_faults, repeated_name, repeated_names}
 use Rattle.gg_elab_sites.proofs.NameLemmas.{Differ}
-use Rattle.gg_elab_tree.proofs.DeclaredLemmas.{append-none}
+use Rattle.gg_elab_tree.proofs.NamesLemmas.DeclaredLemmas.{append-none}
 use Rattle.gg_elab_tree.proofs.EachTreeLemmas.{tree-there}
 use Rattle.gg_elab_tree.proofs.ElementLemmas.{some-of}
-use Rattle.gg_elab_tree.proofs.CircuitFormedLemmas.{circuit-formed}
-use Rattle.gg_elab_tree.proofs.ModuleNameLemmas.{memory-paths-differ}
-use Rattle.gg_elab_tree.proofs.SignalPathLemmas.{signal-paths-differ}
-use Rattle.gg_elab_tree.proofs.TopLemmas.{has-top}
+use Rattle.gg_elab_tree.proofs.WellFormedLemmas.CircuitFormedLemmas.{circuit-formed}
+use Rattle.gg_elab_tree.proofs.NamesLemmas.ModuleNameLemmas.{memory-paths-differ}
+use Rattle.gg_elab_tree.proofs.NamesLemmas.SignalPathLemmas.{signal-paths-differ}
+use Rattle.gg_elab_tree.proofs.WellFormedLemmas.TopLemmas.{has-top}
 use Rattle.gg_elab.proofs.EachCircuitLemmas.{flat-there}
 use Rattle.gg_elab.proofs.FewStopLemmas.{few-within}
 use Rattle.gg_front.specs.Accepted.{IsAcceptedText}

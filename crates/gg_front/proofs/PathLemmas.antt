@@ -24,8 +24,8 @@ use Rattle.gg_elab_sites.specs.Signals.{Types, Cause, Connected, Expressed, Kept
 use Rattle.gg_elab_sites.proofs.StopLemmas.{numbered-among}
 use Rattle.gg_elab_sites.proofs.AmongLemmas.{MadeOf, from-map, from-flat_map, from-filter_map, in-filter_map}
 use Rattle.gg_elab_tree.specs.IsTreeOf.{IsTreeOf, site_paths, signal_paths, memories_of}
-use Rattle.gg_elab_tree.proofs.CauseLemmas.{statements-named}
-use Rattle.gg_elab_tree.proofs.WordLemmas.{BankWords, bank-word, held-word, ports-named}
+use Rattle.gg_elab_tree.proofs.NamesLemmas.CauseLemmas.{statements-named}
+use Rattle.gg_elab_tree.proofs.NamesLemmas.WordLemmas.{BankWords, bank-word, held-word, ports-named}
 use Rattle.gg_front.specs.inside.Paths.{HasPathBytes, IsPath, IsSignalPath}
 use Rattle.gg_front.proofs.BytesLemmas.{dotted-path, joined-path, joined-signal, name-path, path-signal, stop-path}
 

@@ -24,8 +24,8 @@ use Rattle.gg_elab_sites.proofs.NameLemmas.{Differ}
 use Rattle.gg_elab_tree.specs.IsTreeOf.{HeldMemory, IsMemoryFor, IsTreeOf, held_memories, held_memory, memories_of, signal_paths}
 use Rattle.gg_elab_tree.proofs.OwnLemmas.{Pairwise-at}
 use Rattle.gg_elab_tree.proofs.PairwiseLemmas.{Pairwise-length}
-use Rattle.gg_elab_tree.proofs.DifferLemmas.{Differ-append, Differ-none}
-use Rattle.gg_elab_tree.proofs.DriveLemmas.{Stands, stands-at}
+use Rattle.gg_elab_tree.proofs.NamesLemmas.DifferLemmas.{Differ-append, Differ-none}
+use Rattle.gg_elab_tree.proofs.WellFormedLemmas.DriveLemmas.{Stands, stands-at}
 use Rattle.gg_read.specs.Text.{Spells}
 use Rattle.gg_front.specs.inside.Paths.{HavePaths}
 use Rattle.gg_front.proofs.PathLemmas.{IsBankOf, bank-of, flat-paths, tree-memory-paths, tree-paths}

@@ -5,7 +5,7 @@ use Rattle.gg_flat.specs.Streams.{Flow}
 use Rattle.gg_net.specs.declared.event.Event.{Event}
 use Rattle.gg_net.specs.Network.{Network, Frame, kind_of, frame_of}
 use Rattle.gg_net.specs.Kept.{Kept}
-use Rattle.gg_net.specs.Step.{Step}
+use Rattle.gg_net.specs.Step.{Ready, Step}
 use Rattle.gg_net.specs.inside.Step.{cycle_of}
 use Rattle.gg_measure.specs.inside.Nets.{Goes, HasRun, StaysWithin, StepsBelow}
 use Rattle.gg_net.specs.Network.{cycle_at}
@@ -14,7 +14,7 @@ use Rattle.gg_measure.proofs.TurnLemmas.{steps-frame}
 
 -- ---- one event
 
-pub tried-goes : {P : Type 0} (cycle : ℕ) (event : Event) (old new : Network) (done : Bool) → MatchBool done (Step old event new × (cycle_of old event < cycle)) ((new ≡ old) × P) → Goes cycle old done new
+pub tried-goes : (cycle : ℕ) (event : Event) (old new : Network) (done : Bool) → MatchBool done (Step old event new × (cycle_of old event < cycle)) ((new ≡ old) × (Ready old event → cycle_of old event < cycle → ⊥)) → Goes cycle old done new
 tried-goes cycle event old new true both = goes-one cycle old new event both.0 both.1
 tried-goes cycle event old new false not = subst (λ x. Goes cycle old false x) (sym not.0) (goes-none cycle old)
 

@@ -1,5 +1,5 @@
 -- A FIFO is a model, says what its first place has and whether its last is full, and moves its values on.
-use Rattle.std.proofs.Common.{◌≡◌, ◌≢◌, ℕ, zero, suc, ◌+◌, ◌<◌, ◌≤◌, List, [], ◌∷◌, Bool, true, false, length, get_or, refl, sym, ◌∙◌, ap, true≢false, arith}
+use Rattle.std.proofs.Common.{◌≡◌, ◌≢◌, ℕ, zero, suc, ◌+◌, ◌<◌, ◌≤◌, List, [], ◌∷◌, Bool, true, false, length, get_or, refl, sym, ◌∙◌, ap, subst, true≢false, arith}
 use Rattle.std.specs.Prelude.{◌==◌, if◌then◌else◌, Contains, All, AllPairs, bytes_eq}
 use Rattle.std.specs.List.{list_any, range_with_len}
 use Rattle.std.proofs.lemmas.List.FromFn.{get_or-range_with_len, length-range_with_len}
@@ -8,12 +8,12 @@ use Rattle.gg_bits.specs.Shape.{Shape, shape, uint, Fits}
 use Rattle.gg_bits.specs.declared.types.Ty.{Ty}
 use Rattle.gg_flat.specs.declared.piece.Register.{Register}
 use Rattle.gg_flat.specs.declared.piece.Driver.TheVariants.{Input}
-use Rattle.gg_flat.specs.Line.{value_at, connected_value, HasType}
-use Rattle.gg_flat.specs.Circuit.{FlatCircuit, signal_shapes, driver_at}
+use Rattle.gg_flat.specs.Line.{value_at, shape_at, connected_value, HasType}
+use Rattle.gg_flat.specs.Circuit.{FlatCircuit, register_shapes, signal_shapes, driver_at}
 use Rattle.gg_flat.specs.Reads.{Reads, IsPath}
 use Rattle.gg_flat.specs.Order.{IsOrder}
 use Rattle.gg_flat.specs.Settled.{Settled}
-use Rattle.gg_flat.specs.State.{State, taken_value}
+use Rattle.gg_flat.specs.State.{IsState, State, taken_value}
 use Rattle.gg_flat.specs.WellFormed.{IsWellFormed, MayDrive, IsRegister, IsClock}
 use Rattle.gg_bits.proofs.PathLemmas.{missing-path}
 use Rattle.gg_bridge.specs.Joined.{copy_line}
@@ -23,7 +23,7 @@ use Rattle.gg_bridge.proofs.FormedLemmas.{copy-source}
 use Rattle.gg_bridge.proofs.NumberLemmas.{behind-first, behind-once}
 use Rattle.gg_bridge.proofs.RunLemmas.{copy-value}
 use Rattle.golden_fifo.specs.declared.model.Place.{Place}
-use Rattle.golden_fifo.specs.inside.Fifo.{fifo_piece, fifo_registers, fifo_state, next_place, taking}
+use Rattle.golden_fifo.specs.inside.Fifo.{IsPlace, fifo_piece, fifo_registers, fifo_state, next_place, taking}
 
 -- ---- paths that differ
 
@@ -175,6 +175,26 @@ module _ (bit ty : Ty) (flag : shape bit ≡ uint 1) where
       apart : (out signal : ℕ) → 3 ≤ out → signal < 3 → (path : List ℕ) → IsPath fifo out path signal → ⊥
       apart out signal a b [] is = absurd (omega (arith, a, b, is))
       apart out signal a b (next ∷ path) is = reads-none out next is.0
+
+  -- places of this width make a state
+  pub fifo-is-state : (first second third fourth : Place) → IsPlace ty.width first → IsPlace ty.width second → IsPlace ty.width third → IsPlace ty.width fourth
+      → IsState (fifo_piece bit ty) (fifo_state first second third fourth)
+  fifo-is-state first second third fourth one two three four =
+      record { typed = record { count = refl; fits = at }; held = record { count = refl; each = λ m any lt. absurd (omega (arith, lt)) } }
+    where
+      of-flag : (n : ℕ) → n < 2 → Fits (shape bit) n
+      of-flag n lt = subst (λ s. Fits s n) (sym flag) lt
+
+      at : (i : ℕ) → i < 8 → Fits (shape_at (register_shapes (fifo_piece bit ty)) i) (value_at (fifo_state first second third fourth).registers i)
+      at zero lt = of-flag first.full one.bit
+      at (suc zero) lt = one.fits
+      at (suc (suc zero)) lt = of-flag second.full two.bit
+      at (suc (suc (suc zero))) lt = two.fits
+      at (suc (suc (suc (suc zero)))) lt = of-flag third.full three.bit
+      at (suc (suc (suc (suc (suc zero))))) lt = three.fits
+      at (suc (suc (suc (suc (suc (suc zero)))))) lt = of-flag fourth.full four.bit
+      at (suc (suc (suc (suc (suc (suc (suc zero))))))) lt = four.fits
+      at (suc (suc (suc (suc (suc (suc (suc (suc i)))))))) lt = absurd (omega (arith, lt))
 
 -- ---- what it says, and its next state
 

@@ -33,7 +33,7 @@ impl Model for Fifo {
 
     ghost view = { λ fifo. record { bit = fifo.bit; ty = fifo.ty; first = fifo.first; second = fifo.second; third = fifo.third; fourth = fifo.fourth } };
 
-    ghost invariant = { λ fifo. IsFifo fifo.bit fifo.ty fifo.piece };
+    ghost invariant = { λ fifo. IsFifo fifo.bit fifo.ty fifo.piece fifo.first fifo.second fifo.third fifo.fourth };
 }
 
 // What is in a place after a cycle: a full place keeps its value, and is full as long as it can't hand it on; an empty one takes what

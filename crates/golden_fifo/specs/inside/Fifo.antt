@@ -1,7 +1,7 @@
 -- A FIFO with four places: the circuit that it keeps to.
 -- Source: "Synthesis of Synchronous Elastic Architectures", DAC 2006 (channels with `valid` and `stop`); FIRRTL Specification, "Registers"
 -- (a register with a reset takes its init while the condition is 1).
-use Rattle.std.specs.Prelude.{◌≡◌, ℕ, ◌==◌, if◌then◌else◌, List, [], ◌∷◌, Some, None, codes}
+use Rattle.std.specs.Prelude.{◌≡◌, ℕ, ◌<◌, ◌^◌, ◌==◌, if◌then◌else◌, List, [], ◌∷◌, Some, None, codes}
 use Rattle.gg_bits.specs.Shape.{shape, uint}
 use Rattle.gg_bits.specs.declared.types.Ty.{Ty}
 use Rattle.gg_flat.specs.declared.piece.Driver.TheVariants.{Input, Held}
@@ -96,7 +96,16 @@ pub record Kept : Type 0 where
   pub third : Place
   pub fourth : Place
 
--- The circuit is a FIFO of this type, whose flags are one unsigned bit.
-pub record IsFifo (bit ty : Ty) (piece : FlatCircuit) : Type 0 where
+-- A place of this width: its flag is one bit, and its value fits.
+pub record IsPlace (width : ℕ) (place : Place) : Type 0 where
+  pub bit : place.full < 2
+  pub fits : place.value < 2 ^ width
+
+-- The circuit is a FIFO of this type, whose flags are one unsigned bit, and each place has its width.
+pub record IsFifo (bit ty : Ty) (piece : FlatCircuit) (first second third fourth : Place) : Type 0 where
   pub is : piece ≡ fifo_piece bit ty
   pub flag : shape bit ≡ uint 1
+  pub one : IsPlace ty.width first
+  pub two : IsPlace ty.width second
+  pub three : IsPlace ty.width third
+  pub four : IsPlace ty.width fourth

@@ -7,9 +7,9 @@ use Rattle.gg_elab_sites.specs.Flat.{flat_signals, flat_memories, stop_paths}
 use Rattle.gg_elab_sites.specs.IsFlat.{top_ports}
 use Rattle.gg_elab_sites.specs.Known.{types_of}
 use Rattle.gg_shape_names.specs.Repetitions.{repetitions}
-use Rattle.gg_elab_tree.proofs.CircuitFormedLemmas.{circuit-formed}
-use Rattle.gg_elab_tree.proofs.HeldLemmas.{held-once}
-use Rattle.gg_elab_tree.proofs.ModuleNameLemmas.{memory-paths-differ}
+use Rattle.gg_elab_tree.proofs.WellFormedLemmas.CircuitFormedLemmas.{circuit-formed}
+use Rattle.gg_elab_tree.proofs.WellFormedLemmas.HeldLemmas.{held-once}
+use Rattle.gg_elab_tree.proofs.NamesLemmas.ModuleNameLemmas.{memory-paths-differ}
 use Rattle.gg_elab_tree.proofs.ElementLemmas.{some-of}
 use Rattle.gg_elab_tree.proofs.forms.formed.Goals as goal
 

@@ -4,8 +4,8 @@ use Rattle.gg_ast.specs.Tree.{CircuitTree}
 use Rattle.gg_shape_names.specs.Repetitions.{repetitions}
 use Rattle.gg_elab_sites.specs.Known.{types_of}
 use Rattle.gg_elab_sites.proofs.StopLemmas.{few-stops}
-use Rattle.gg_elab_tree.proofs.ModuleNameLemmas.{memory-paths-differ, site-paths-differ}
-use Rattle.gg_elab_tree.proofs.SignalPathLemmas.{signal-paths-differ}
+use Rattle.gg_elab_tree.proofs.NamesLemmas.ModuleNameLemmas.{memory-paths-differ, site-paths-differ}
+use Rattle.gg_elab_tree.proofs.NamesLemmas.SignalPathLemmas.{signal-paths-differ}
 use Rattle.gg_elab_tree.proofs.paths.distinct.Goals as goal
 
 pub returns-clause-sites : goal.returns-clause-sites

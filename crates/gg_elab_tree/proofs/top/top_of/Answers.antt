@@ -1,7 +1,7 @@
 use Rattle.std.proofs.Common.{◌≡◌, sym, ap, ◌∙◌, subst}
 use Rattle.gg_ast.specs.Places.{place_of}
 use Rattle.gg_ast.specs.Tree.{CircuitTree, module_names}
-use Rattle.gg_elab_tree.proofs.TopLemmas.{has-top, some-there}
+use Rattle.gg_elab_tree.proofs.WellFormedLemmas.TopLemmas.{has-top, some-there}
 use Rattle.gg_elab_tree.proofs.top.top_of.Goals as goal
 
 pub unwrap-requires : goal.unwrap-requires

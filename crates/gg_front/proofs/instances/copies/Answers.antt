@@ -4,7 +4,7 @@ use Rattle.gg_ast.specs.Tree.{CircuitTree}
 use Rattle.gg_shape_names.specs.Modules.{Holds}
 use Rattle.gg_shape_names.specs.Repetitions.{repetitions}
 use Rattle.gg_elab_sites.proofs.NameLemmas.{Differ}
-use Rattle.gg_elab_tree.proofs.SoundLemmas.{plain-names, apart-names, known-names}
+use Rattle.gg_elab_tree.proofs.NamesLemmas.SoundLemmas.{plain-names, apart-names, known-names}
 use Rattle.gg_graph.specs.inside.Graph.{IsOrderOf}
 use Rattle.gg_front.proofs.CopyInstanceLemmas.{has-copies}
 use Rattle.gg_front.proofs.CopyRankLemmas.{place_in, order-ranked, rank-most, some-names}

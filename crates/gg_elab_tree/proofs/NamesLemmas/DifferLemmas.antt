@@ -8,8 +8,8 @@ use Rattle.std.proofs.lemmas.List.Elements.{Contains-append_left, Contains-appen
 use Rattle.std.proofs.Math.Seq.{get_or-append_right}
 use Rattle.gg_elab_sites.proofs.FreshLemmas.{Differ-front}
 use Rattle.gg_elab_sites.proofs.NameLemmas.{Differ}
-use Rattle.gg_elab_tree.proofs.DeclaredLemmas.{Differ-behind, Differ-parts}
-use Rattle.gg_elab_tree.proofs.JoinLemmas.{dot-within}
+use Rattle.gg_elab_tree.proofs.NamesLemmas.DeclaredLemmas.{Differ-behind, Differ-parts}
+use Rattle.gg_elab_tree.proofs.NamesLemmas.JoinLemmas.{dot-within}
 use Rattle.gg_elab_tree.proofs.OwnLemmas.{front}
 use Rattle.gg_elab_sites.proofs.AmongLemmas.{element-at, MadeOf, in-flat_map, from-flat_map}
 use Rattle.gg_flat.proofs.ListLemmas.{further}

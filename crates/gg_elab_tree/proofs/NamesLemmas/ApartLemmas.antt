@@ -9,10 +9,10 @@ use Rattle.gg_flat_tree.specs.Tree.{joined}
 use Rattle.gg_flat.proofs.ListLemmas.{further, Contains-map, map-same}
 use Rattle.gg_elab_sites.specs.Sites.{Held, Site, site_below, sites, held_at}
 use Rattle.gg_elab_sites.proofs.NameLemmas.{Differ, Differ-tail}
-use Rattle.gg_elab_tree.proofs.DeclaredLemmas.{Differ-head}
-use Rattle.gg_elab_tree.proofs.JoinLemmas.{joined-twice}
+use Rattle.gg_elab_tree.proofs.NamesLemmas.DeclaredLemmas.{Differ-head}
+use Rattle.gg_elab_tree.proofs.NamesLemmas.JoinLemmas.{joined-twice}
 use Rattle.gg_elab_sites.proofs.AmongLemmas.{MadeOf, from-map, from-flat_map}
-use Rattle.gg_elab_tree.proofs.DifferLemmas.{Differ-none, Differ-append, Differ-map, IsDotless, behind-once, first-once}
+use Rattle.gg_elab_tree.proofs.NamesLemmas.DifferLemmas.{Differ-none, Differ-append, Differ-map, IsDotless, behind-once, first-once}
 
 -- the name of something in an instance: the instance's name, a dot, and its name there
 abbrev pub behind : Held → List ℕ → List ℕ

@@ -10,9 +10,9 @@ use Rattle.gg_elab_sites.specs.Signals.{Asked, Own, OwnStop, numbered, own_stops
 use Rattle.gg_elab_sites.proofs.AmongLemmas.{element-at, from-map}
 use Rattle.gg_elab_sites.proofs.NameLemmas.{Differ}
 use Rattle.gg_elab_sites.proofs.StopLemmas.{numbered-among, stop_name-colon, stop_name-plain}
-use Rattle.gg_elab_tree.proofs.CauseLemmas.{name-colonless}
-use Rattle.gg_elab_tree.proofs.JoinLemmas.{dot-within}
-use Rattle.gg_elab_tree.proofs.DifferLemmas.{BeginsIn}
+use Rattle.gg_elab_tree.proofs.NamesLemmas.CauseLemmas.{name-colonless}
+use Rattle.gg_elab_tree.proofs.NamesLemmas.JoinLemmas.{dot-within}
+use Rattle.gg_elab_tree.proofs.NamesLemmas.DifferLemmas.{BeginsIn}
 
 -- the names of the stops of statements
 abbrev pub stop_words : List Stmt → List (List ℕ)

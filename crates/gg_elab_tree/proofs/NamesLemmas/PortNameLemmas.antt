@@ -15,10 +15,10 @@ use Rattle.gg_types.specs.Memories.{Bank, bank_of, readers_said, writers_said, t
 use Rattle.gg_elab_sites.specs.Signals.{Own, memory_signals, readers_signals, writer_signals}
 use Rattle.gg_elab_sites.proofs.FreshLemmas.{Differ-front}
 use Rattle.gg_elab_sites.proofs.NameLemmas.{Differ}
-use Rattle.gg_elab_tree.proofs.DeclaredLemmas.{append-none, fresh, Differ-snoc, Differ-behind, Differ-parts}
-use Rattle.gg_elab_tree.proofs.WordLemmas.{bank-ports}
+use Rattle.gg_elab_tree.proofs.NamesLemmas.DeclaredLemmas.{append-none, fresh, Differ-snoc, Differ-behind, Differ-parts}
+use Rattle.gg_elab_tree.proofs.NamesLemmas.WordLemmas.{bank-ports}
 use Rattle.gg_elab_sites.proofs.AmongLemmas.{MadeOf, from-map, from-flat_map}
-use Rattle.gg_elab_tree.proofs.DifferLemmas.{head_of, Differ-none, Differ-append, Differ-map, Differ-turned, IsDotless, behind-once, BeginsIn, begins-apart, parts-differ}
+use Rattle.gg_elab_tree.proofs.NamesLemmas.DifferLemmas.{head_of, Differ-none, Differ-append, Differ-map, Differ-turned, IsDotless, behind-once, BeginsIn, begins-apart, parts-differ}
 
 -- ---- the ports that fields name
 

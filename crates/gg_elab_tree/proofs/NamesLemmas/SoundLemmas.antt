@@ -19,17 +19,17 @@ use Rattle.gg_types.specs.Memories.{type_shape}
 use Rattle.gg_elab_sites.specs.Signals.{Own, OwnBank, own_of_port, statement_signals}
 use Rattle.gg_elab_sites.proofs.NameLemmas.{Differ}
 use Rattle.gg_elab_tree.proofs.ElementLemmas.{element}
-use Rattle.gg_elab_tree.proofs.CauseLemmas.{name-some, name-dotless, name-colonless, statements-named, port-count}
+use Rattle.gg_elab_tree.proofs.NamesLemmas.CauseLemmas.{name-some, name-dotless, name-colonless, statements-named, port-count}
 use Rattle.gg_elab_tree.proofs.ChildLemmas.{child-known, field-known}
-use Rattle.gg_elab_tree.proofs.DeclaredLemmas.{names-differ, module-declared, Differ-behind, Differ-parts, held-no-bank}
+use Rattle.gg_elab_tree.proofs.NamesLemmas.DeclaredLemmas.{names-differ, module-declared, Differ-behind, Differ-parts, held-no-bank}
 use Rattle.gg_elab_tree.proofs.FieldLemmas.{FieldPlace, memory-field}
-use Rattle.gg_elab_tree.proofs.JoinLemmas.{dot-within}
+use Rattle.gg_elab_tree.proofs.NamesLemmas.JoinLemmas.{dot-within}
 use Rattle.gg_elab_tree.proofs.OwnLemmas.{own_in, port-own}
 use Rattle.gg_elab_tree.proofs.ScopeOfTreeLemmas.{HasApartNames}
 use Rattle.gg_elab_tree.proofs.TreeLemmas.{HasPlainNames, no_own}
 use Rattle.gg_elab_tree.proofs.VisibleLemmas.{IsPlain, HasKnownNames}
 use Rattle.gg_elab_tree.proofs.StopOwnLemmas.{StopPlace, stop-dotless, stop-colon, all-own}
-use Rattle.gg_elab_tree.proofs.WordLemmas.{ports-named, held-word, BankWords, bank-word, DeclaredIn}
+use Rattle.gg_elab_tree.proofs.NamesLemmas.WordLemmas.{ports-named, held-word, BankWords, bank-word, DeclaredIn}
 
 -- ---- lists
 

@@ -21,8 +21,8 @@ use Rattle.gg_elab_sites.specs.IsFlat.{IsFlatOf, IsMemoryOf, bindings_of, count_
 use Rattle.gg_elab_sites.specs.Signals.{Types, own_banks, own_signals}
 use Rattle.gg_elab_sites.proofs.AmongLemmas.{Element, MadeOf, element-at, from-flat_map, from-map}
 use Rattle.gg_elab_sites.proofs.FollowLemmas.{at-below, input_count, sites-below}
-use Rattle.gg_elab_tree.proofs.RegisterClockLemmas.{HoldsAs, held-as, held-follows}
-use Rattle.gg_elab_tree.proofs.HeldLemmas.{held-once}
+use Rattle.gg_elab_tree.proofs.WellFormedLemmas.RegisterClockLemmas.{HoldsAs, held-as, held-follows}
+use Rattle.gg_elab_tree.proofs.WellFormedLemmas.HeldLemmas.{held-once}
 use Rattle.gg_elab_tree.specs.Held.{HasOneHolder}
 
 module _ (types : Types) (modules : List ModuleTree) (top : ℕ) (flat : FlatCircuit) (is_flat : IsFlatOf types (flat_signals types modules (all_sites modules top)) (flat_memories modules (all_sites modules top)) (module_at modules top).ports (stop_paths modules (all_sites modules top)) flat) where

@@ -17,16 +17,16 @@ use Rattle.gg_elab_sites.specs.Signals.{Own, own_banks, own_signals, own_stops}
 use Rattle.gg_elab_sites.proofs.AmongLemmas.{MadeOf, from-map}
 use Rattle.gg_elab_sites.proofs.NameLemmas.{Differ}
 use Rattle.gg_elab_tree.specs.IsTreeOf.{signal_paths}
-use Rattle.gg_elab_tree.proofs.CauseLemmas.{name-dotless}
+use Rattle.gg_elab_tree.proofs.NamesLemmas.CauseLemmas.{name-dotless}
 use Rattle.gg_elab_tree.proofs.FieldLemmas.{FieldPlace, memory-field}
-use Rattle.gg_elab_tree.proofs.JoinLemmas.{dot-within}
+use Rattle.gg_elab_tree.proofs.NamesLemmas.JoinLemmas.{dot-within}
 use Rattle.gg_elab_tree.proofs.OwnLemmas.{own_in}
-use Rattle.gg_elab_tree.proofs.SoundLemmas.{apart-names}
-use Rattle.gg_elab_tree.proofs.WordLemmas.{bank-word}
-use Rattle.gg_elab_tree.proofs.ApartLemmas.{behind, AreApart, own_paths}
-use Rattle.gg_elab_tree.proofs.DifferLemmas.{Differ-append, Differ-none, first-once, flat_map-parts}
-use Rattle.gg_elab_tree.proofs.ModuleNameLemmas.{declared-differ, declared_words, held-differ, held-plain, held-some, no-stop, of-sites, own-parts, port_words, statement_words, words}
-use Rattle.gg_elab_tree.proofs.StopNameLemmas.{stop-word, stop_words, stops-differ}
+use Rattle.gg_elab_tree.proofs.NamesLemmas.SoundLemmas.{apart-names}
+use Rattle.gg_elab_tree.proofs.NamesLemmas.WordLemmas.{bank-word}
+use Rattle.gg_elab_tree.proofs.NamesLemmas.ApartLemmas.{behind, AreApart, own_paths}
+use Rattle.gg_elab_tree.proofs.NamesLemmas.DifferLemmas.{Differ-append, Differ-none, first-once, flat_map-parts}
+use Rattle.gg_elab_tree.proofs.NamesLemmas.ModuleNameLemmas.{declared-differ, declared_words, held-differ, held-plain, held-some, no-stop, of-sites, own-parts, port_words, statement_words, words}
+use Rattle.gg_elab_tree.proofs.NamesLemmas.StopNameLemmas.{stop-word, stop_words, stops-differ}
 
 module _ (circuit : CircuitTree) (are_names : AreNamesOfCircuit circuit) (once : repetitions circuit ≡ []) where
   abbrev own_names : ℕ → List (List ℕ)

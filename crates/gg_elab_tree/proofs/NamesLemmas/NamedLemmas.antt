@@ -15,7 +15,7 @@ use Rattle.gg_elab_sites.specs.Flat.{flat_memory, memories_at}
 use Rattle.gg_elab_sites.specs.IsFlat.{IsFlat}
 use Rattle.gg_elab_tree.specs.IsTreeOf.{IsTreeOf, held_memory, held_memories, signal_paths, site_paths}
 use Rattle.gg_elab_sites.specs.Signals.{Own, OwnBank, memory_signals}
-use Rattle.gg_elab_tree.proofs.JoinLemmas.{joined-once, joined-some}
+use Rattle.gg_elab_tree.proofs.NamesLemmas.JoinLemmas.{joined-once, joined-some}
 use Rattle.gg_elab_tree.proofs.PlaceLemmas.{Placed}
 use Rattle.gg_elab_tree.proofs.RangeLemmas.{count_to, count-le, placed-at, placed-same}
 use Rattle.gg_elab_tree.proofs.InstanceLemmas.{signals_in, top_placed, held_at-place, path-place, ranges}

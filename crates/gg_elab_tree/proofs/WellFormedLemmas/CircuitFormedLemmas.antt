@@ -10,7 +10,7 @@ use Rattle.gg_elab_sites.specs.Flat.{flat_signals, flat_memories, stop_paths}
 use Rattle.gg_elab_sites.specs.IsFlat.{IsFlatOf, IsFlat, memory_paths, top_ports}
 use Rattle.gg_elab_sites.specs.Known.{types_of}
 use Rattle.gg_elab_sites.proofs.NameLemmas.{Differ}
-use Rattle.gg_elab_tree.proofs.FormedLemmas.{formed}
+use Rattle.gg_elab_tree.proofs.WellFormedLemmas.FormedLemmas.{formed}
 
 -- the flat circuit of a circuit with a top is well formed
 pub circuit-formed : (circuit : CircuitTree) (flat : FlatCircuit) (top : ℕ) → place_of circuit.name (module_names circuit) ≡ Some top → IsFlat circuit flat → AreFitting flat → Differ flat.paths → Differ (memory_paths (flat_memories circuit.modules (sites_of circuit))) → IsWellFormed flat

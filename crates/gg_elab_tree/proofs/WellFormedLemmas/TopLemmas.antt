@@ -9,7 +9,7 @@ use Rattle.gg_shape.specs.declared.fault.Fault.{Fault}
 use Rattle.gg_shape.specs.declared.fault.Fault.TheVariants.{MissingTop}
 use Rattle.gg_shape.specs.Faults.{fault_if}
 use Rattle.gg_shape.specs.Shape.{named_faults, missing_top, repeated_names, in_modules, unknown_names, second_connections, unconnected_sinks, connected_sources}
-use Rattle.gg_elab_tree.proofs.DeclaredLemmas.{append-none}
+use Rattle.gg_elab_tree.proofs.NamesLemmas.DeclaredLemmas.{append-none}
 
 abbrev is_none : {A : Type 0} → List A → Bool
 is_none [] = true

@@ -31,17 +31,17 @@ use Rattle.gg_elab_sites.specs.Signals.{Types, Cause, Connected, Expressed, Kept
 use Rattle.gg_elab_sites.proofs.FreshLemmas.{Differ-front}
 use Rattle.gg_elab_sites.proofs.NameLemmas.{Differ}
 use Rattle.gg_elab_tree.specs.IsTreeOf.{site_paths, memories_of}
-use Rattle.gg_elab_tree.proofs.CauseLemmas.{name-some, name-dotless, statements-named}
-use Rattle.gg_elab_tree.proofs.DeclaredLemmas.{append-none, names-differ, module-declared, Differ-behind, held-named, bank-named}
+use Rattle.gg_elab_tree.proofs.NamesLemmas.CauseLemmas.{name-some, name-dotless, statements-named}
+use Rattle.gg_elab_tree.proofs.NamesLemmas.DeclaredLemmas.{append-none, names-differ, module-declared, Differ-behind, held-named, bank-named}
 use Rattle.gg_elab_tree.proofs.FieldLemmas.{memory-field}
-use Rattle.gg_elab_tree.proofs.JoinLemmas.{dot-within}
-use Rattle.gg_elab_tree.proofs.WordLemmas.{ports-named, held-word, bank-word, BankWords}
+use Rattle.gg_elab_tree.proofs.NamesLemmas.JoinLemmas.{dot-within}
+use Rattle.gg_elab_tree.proofs.NamesLemmas.WordLemmas.{ports-named, held-word, bank-word, BankWords}
 use Rattle.gg_elab_sites.proofs.AmongLemmas.{from-map, in-flat_map, from-flat_map, in-filter_map}
-use Rattle.gg_elab_tree.proofs.ApartLemmas.{behind, AreApart, own_paths, paths-differ}
-use Rattle.gg_elab_tree.proofs.DifferLemmas.{Differ-none, Differ-one, Differ-append, IsDotless, BeginsIn, begins-apart, parts-differ, filter_map-parts, flat_map-parts}
-use Rattle.gg_elab_tree.proofs.PortNameLemmas.{bank-differs, fields-apart}
-use Rattle.gg_elab_tree.proofs.BankFieldLemmas.{bank_or}
-use Rattle.gg_elab_tree.proofs.StopNameLemmas.{StopWord, stop-apart, stop_words}
+use Rattle.gg_elab_tree.proofs.NamesLemmas.ApartLemmas.{behind, AreApart, own_paths, paths-differ}
+use Rattle.gg_elab_tree.proofs.NamesLemmas.DifferLemmas.{Differ-none, Differ-one, Differ-append, IsDotless, BeginsIn, begins-apart, parts-differ, filter_map-parts, flat_map-parts}
+use Rattle.gg_elab_tree.proofs.NamesLemmas.PortNameLemmas.{bank-differs, fields-apart}
+use Rattle.gg_elab_tree.proofs.WellFormedLemmas.BankFieldLemmas.{bank_or}
+use Rattle.gg_elab_tree.proofs.NamesLemmas.StopNameLemmas.{StopWord, stop-apart, stop_words}
 
 -- ---- the names of statements
 

@@ -26,8 +26,8 @@ use Rattle.gg_elab_sites.specs.Sites.{Held, held, held_by, held_by_kind}
 use Rattle.gg_types.specs.Memories.{Bank, bank_of, bank_with, readers_said, writers_said, type_shape, first_said, type_said, depth_said, latency_said, under_said, latency_of}
 use Rattle.gg_elab_sites.specs.Signals.{Types, Cause, Connected, Expressed, Kept, Own, own, OwnBank, own_bank, own_banks, bank_of_kind, own_of_kind, memory_signals}
 use Rattle.gg_elab_tree.proofs.ElementLemmas.{value_or}
-use Rattle.gg_elab_tree.proofs.CauseLemmas.{name-dotless}
-use Rattle.gg_elab_tree.proofs.DeclaredLemmas.{made-by}
+use Rattle.gg_elab_tree.proofs.NamesLemmas.CauseLemmas.{name-dotless}
+use Rattle.gg_elab_tree.proofs.NamesLemmas.DeclaredLemmas.{made-by}
 use Rattle.gg_elab_tree.proofs.FieldLemmas.{FieldPlace}
 use Rattle.gg_elab_tree.proofs.OwnLemmas.{front}
 

@@ -26,13 +26,13 @@ use Rattle.gg_elab_sites.specs.Flat.{Drive, Outside, Gets, Holds, Answers, drive
 use Rattle.gg_elab_sites.specs.IsFlat.{bindings_of, IsDrivenBy, IsMemoryOf, IsFlatOf, answer, number_of, field_number, reader_of, writer_of, is_outside, is_register, drive_at, count_before, signals_of, memory_paths, port_names}
 use Rattle.gg_elab_sites.specs.Signals.{Types, Cause, Connected, Answered, Own, own, own_of_port, own_of_kind, own_signals, own_stops, OwnStop, statement_signals, stop_signal, OwnBank, own_banks, field_name, reader_signals, writer_signals}
 use Rattle.gg_elab_sites.proofs.AmongLemmas.{Element, element-at, MadeOf, from-map, in-flat_map, from-flat_map}
-use Rattle.gg_elab_tree.proofs.ClockFormLemmas.{registers-clocked, memories-clocked}
-use Rattle.gg_elab_tree.proofs.BankFieldLemmas.{bank-signal, reader-among, writer-among, bank-depth, AnswerAmong, answer-among}
-use Rattle.gg_elab_tree.proofs.JoinLemmas.{joined-behind}
+use Rattle.gg_elab_tree.proofs.WellFormedLemmas.ClockFormLemmas.{registers-clocked, memories-clocked}
+use Rattle.gg_elab_tree.proofs.WellFormedLemmas.BankFieldLemmas.{bank-signal, reader-among, writer-among, bank-depth, AnswerAmong, answer-among}
+use Rattle.gg_elab_tree.proofs.NamesLemmas.JoinLemmas.{joined-behind}
 use Rattle.gg_elab_sites.proofs.NameLemmas.{Differ}
-use Rattle.gg_elab_tree.proofs.OutsideLemmas.{inputs-are, port-named}
+use Rattle.gg_elab_tree.proofs.WellFormedLemmas.OutsideLemmas.{inputs-are, port-named}
 use Rattle.gg_elab_sites.proofs.PassingLemmas.{passing, passed-at, Passes, passing-at, passing-map}
-use Rattle.gg_elab_tree.proofs.DriveLemmas.{AnswerCause, Stands, answer-cause, answer-is, data-drives, number-at, outside-is, stands-at}
+use Rattle.gg_elab_tree.proofs.WellFormedLemmas.DriveLemmas.{AnswerCause, Stands, answer-cause, answer-is, data-drives, number-at, outside-is, stands-at}
 
 -- ---- the flat circuit
 

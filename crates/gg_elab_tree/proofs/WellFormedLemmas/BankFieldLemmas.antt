@@ -18,7 +18,7 @@ use Rattle.gg_flat.specs.declared.memory.UnderWrite.TheVariants.{Undefined}
 use Rattle.gg_types.specs.Memories.{Bank, bank_of, bank_with, type_shape, first_said, type_said, depth_said, latency_said, under_said, latency_of, readers_said, writers_said}
 use Rattle.gg_elab_sites.specs.Signals.{Types, Cause, FromOutside, Connected, Expressed, Kept, Answered, Own, own, own_of_port, cause_of_port, own_of_kind, own_signals, own_stops, statement_signals, stop_signal, OwnBank, own_bank, own_banks, bank_of_kind, memory_signals, reader_signals, readers_signals, writer_signals, field_name}
 use Rattle.gg_elab_sites.proofs.AmongLemmas.{from-map, in-flat_map, from-flat_map, in-filter_map, from-filter_map}
-use Rattle.gg_elab_tree.proofs.DeclaredLemmas.{made-by}
+use Rattle.gg_elab_tree.proofs.NamesLemmas.DeclaredLemmas.{made-by}
 use Rattle.gg_elab_tree.proofs.FieldLemmas.{bank-together}
 
 -- ---- the fields of a memory are signals of its module

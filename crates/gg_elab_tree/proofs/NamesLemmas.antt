@@ -1,0 +1,12 @@
+pub mod ApartLemmas
+pub mod CauseLemmas
+pub mod DeclaredLemmas
+pub mod DifferLemmas
+pub mod JoinLemmas
+pub mod ModuleNameLemmas
+pub mod NamedLemmas
+pub mod PortNameLemmas
+pub mod SignalPathLemmas
+pub mod SoundLemmas
+pub mod StopNameLemmas
+pub mod WordLemmas

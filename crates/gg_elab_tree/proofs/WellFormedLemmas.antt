@@ -1,0 +1,9 @@
+pub mod BankFieldLemmas
+pub mod CircuitFormedLemmas
+pub mod ClockFormLemmas
+pub mod DriveLemmas
+pub mod FormedLemmas
+pub mod HeldLemmas
+pub mod OutsideLemmas
+pub mod RegisterClockLemmas
+pub mod TopLemmas
