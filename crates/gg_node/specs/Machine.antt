@@ -80,12 +80,12 @@ latched_value (Some value) = value
 abbrev pub latched_values : List (Option ℕ) → List ℕ
 latched_values latches = map latched_value latches
 
--- an in if its latch is empty, else `rest`
+-- an in if its latch is empty, otherwise `rest`
 abbrev pub empty_or : Option ℕ → ℕ → Option ℕ → Option ℕ
 empty_or None i rest = Some i
 empty_or (Some value) i rest = rest
 
--- the first of these ins whose latch is empty
+-- the first of these ins with an empty latch
 abbrev pub first_empty : List (Option ℕ) → List ℕ → Option ℕ
 first_empty latches [] = None
 first_empty latches (i ∷ ins) = empty_or (latch_at latches i) i (first_empty latches ins)
@@ -105,7 +105,7 @@ source_machine column cycle flags = record { behaviour = GivesColumn column; lim
 abbrev pub tray_machine : ℕ → ℕ → ℕ → List ℕ → Option ℕ → Machine
 tray_machine rows limit cycle kept latch = record { behaviour = KeepsLast rows; limit = limit; ratios = []; needs = []; port_count = 0; ports = []; cycle = cycle; state = no_state; served = 0; latches = latch ∷ []; flags = []; kept = kept }
 
--- the first cycle whose value a machine still keeps; it keeps those of the last cycles before the one that it is in
+-- the first cycle with a kept value; the kept values are of the cycles just before the current one
 abbrev pub first_kept : Machine → ℕ
 first_kept machine = machine.cycle - length machine.kept
 

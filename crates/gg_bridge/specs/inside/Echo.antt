@@ -7,7 +7,7 @@ use Rattle.gg_flat.specs.Circuit.{FlatCircuit}
 use Rattle.gg_flat.specs.State.{State}
 use Rattle.gg_bridge.specs.Joined.{copy_line}
 
--- its in-signal, its out-signal, which is a register, and that register, which takes the in-signal in each tick
+-- an in-signal, and an out-signal that is a register, which takes the in-signal in each tick
 abbrev pub echo_piece : Ty → FlatCircuit
 echo_piece ty =
     record {

@@ -1,4 +1,4 @@
--- More on Made: what no promise of the program's speaks of.
+-- More on Made: what no promise of the program reaches.
 -- Source: MEMOCODE 2009 (a network of machines that are latency-insensitive); ICCAD 2019 (instances and memories of a
 -- target as models of their own).
 use Rattle.std.specs.Prelude.{◌≡◌, ◌≢◌, ℕ, ◌<◌, ◌≤◌, ◌^◌, List, [], Bool, length, map, slice_index_or, AllPairs}

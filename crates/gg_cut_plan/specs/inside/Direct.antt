@@ -1,4 +1,4 @@
--- More on Direct: what no promise of the program's speaks of.
+-- More on Direct: what no promise of the program reaches.
 -- Source: MEMOCODE 2009 (a fork: one out-signal of a node on several channels); this program's profile for which
 -- channels are direct.
 use Rattle.std.specs.Prelude.{◌≡◌, ℕ, List}

@@ -1,4 +1,4 @@
--- More on Listed: what no promise of the program's speaks of.
+-- More on Listed: what no promise of the program reaches.
 -- Source: ICCAD 2019 (instances and memories of a target that are marked become models of their own); FIRRTL
 -- Specification, "Instances" and "Memories" for what an instance holds.
 use Rattle.std.specs.Prelude.{◌≡◌, ◌<◌, ℕ, List, Bool, ◌==◌, Some, length}

@@ -1,4 +1,4 @@
--- More on Machines: what no promise of the program's speaks of.
+-- More on Machines: what no promise of the program reaches.
 -- Source: MEMOCODE 2009 (the nodes of a network); ICCAD 2019 (units and memories of a target as models of their own, with sources
 -- for its inputs and sinks for its outputs).
 use Rattle.std.specs.Prelude.{◌≡◌, ◌<◌, ℕ, ◌+◌, length}

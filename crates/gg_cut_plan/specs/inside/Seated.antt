@@ -1,4 +1,4 @@
--- More on Seated: what no promise of the program's speaks of.
+-- More on Seated: what no promise of the program reaches.
 -- Source: ICCAD 2019 (bridges: models in the host's own code that stand at a target's ports).
 use Rattle.std.specs.Prelude.{◌≡◌, ℕ, ◌+◌, ◌-◌, ◌<◌, Some}
 use Rattle.gg_cut_plan.specs.Seated.{Bridges, first_bridge, seat_of}

@@ -1,4 +1,4 @@
--- More on Solves: what no promise of the program's speaks of.
+-- More on Solves: what no promise of the program reaches.
 -- Source: MEMOCODE 2009 (a network of machines has the streams of the synchronous circuit that it was cut from; a token at the start
 -- comes before what a producer gives).
 use Rattle.std.specs.Prelude.{◌≡◌, ℕ, ◌<◌, ◌≤◌, List, [], ◌==◌, unwrap_or, length, map, take, slice_index_or, All}

@@ -1,4 +1,4 @@
--- More on Fitting: what no promise of the program's speaks of.
+-- More on Fitting: what no promise of the program reaches.
 -- Source: ICCAD 2019 (bridges: models in the host's own code that stand at a target's ports).
 use Rattle.std.specs.Prelude.{◌≡◌, ◌≢◌, ℕ, ◌<◌, List, ◌++◌, codes, true, Some, All, length, map, flat_map, slice_index_or, AllPairs, Contains}
 use Rattle.gg_flat.specs.Circuit.{FlatCircuit, signal_shapes}

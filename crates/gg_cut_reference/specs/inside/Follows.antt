@@ -1,4 +1,4 @@
--- More on Follows: what no promise of the program's speaks of.
+-- More on Follows: what no promise of the program reaches.
 -- Source: MEMOCODE 2009 (the values of each channel, cycle by cycle; a token at the start comes before them).
 use Rattle.std.specs.Prelude.{◌≡◌, ℕ, List, map, take}
 use Rattle.gg_flat.specs.Run.{Start, column}

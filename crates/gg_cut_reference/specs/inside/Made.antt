@@ -1,4 +1,4 @@
--- More on Made: what no promise of the program's speaks of.
+-- More on Made: what no promise of the program reaches.
 -- Source: this program's profile (the numbers and the paths of pipes).
 use Rattle.std.specs.Prelude.{ℕ, Bool}
 use Rattle.gg_flat.specs.Circuit.{FlatCircuit}

@@ -1,4 +1,4 @@
--- More on Reference: what no promise of the program's speaks of.
+-- More on Reference: what no promise of the program reaches.
 -- Source: MEMOCODE 2009 (a buffer with a token in it at the start delays a stream by a cycle); this program's profile.
 use Rattle.std.specs.Prelude.{◌≡◌, ◌⊎◌, ℕ, ◌+◌, ◌<◌, List, [], ◌∷◌, ◌++◌, codes, Some, None, length, map, slice_index_or}
 use Rattle.gg_bits.specs.Shape.{Shape, shape}

@@ -1,4 +1,4 @@
--- More on Whole: what no promise of the program's speaks of.
+-- More on Whole: what no promise of the program reaches.
 -- Source: ICCAD 2019 (bridges: models in the host's own code that stand at a target's ports, so that target and models together are one
 -- simulated system); FIRRTL Specification, "Connects".
 use Rattle.std.specs.Prelude.{◌≡◌, ℕ, ◌<◌, ◌≤◌, ◌+◌, List, [], ◌∷◌, ⊤, length, map, sum, take, slice_index_or, unwrap_or}
