@@ -8,7 +8,7 @@ use Rattle.gg_flat.specs.State.{State}
 use Rattle.gg_flat.specs.Settled.{Settled}
 use Rattle.gg_cut_plan.specs.declared.wires.Wire.{Wire}
 
--- ---- what a request asks for
+-- ---- the channels of a request
 
 -- in each settled row both signals of the channel have one value
 abbrev pub IsSame : FlatCircuit → Wire → Type 0

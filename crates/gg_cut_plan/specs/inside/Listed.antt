@@ -6,7 +6,7 @@ use Rattle.std.specs.List.{list_any}
 use Rattle.gg_flat_tree.specs.Tree.{InstanceTree, instance_at}
 use Rattle.gg_order.specs.Marks.{is_marked}
 
--- ---- which instance is in which
+-- ---- which instances contain which
 
 -- each instance comes after its parent
 abbrev pub ParentsBefore : InstanceTree → Type 0

@@ -18,7 +18,7 @@ IsKept b m = seat_of b m < first_bridge b
 pub record IsSeen (b : Bridges) (k m : ℕ) : Type 0 where
   pub place : ℕ
   pub known : place < b.outs
-  -- trays are behind all sources
+  -- trays come after all sources
   pub is : m ≡ b.first + b.ins + place
   pub viewer : b.viewer place ≡ Some k
 
