@@ -66,7 +66,7 @@ impl Domains {
     }
 }
 
-// The instance whose Clock inputs a machine has.
+// The instance with the Clock inputs of a machine.
 fn home_of(listed: &Listed, machine: usize) -> u32
     ensures { result ≡ clock_home listed.now machine }
 {

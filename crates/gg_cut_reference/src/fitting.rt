@@ -6,8 +6,8 @@
 //! - each machine of the cut has a number in the plan (`seats_known`), which it shares with none if no bridge takes its place
 //!   (`seats_apart`), and then it keeps its channels and its name (`channels_kept`, `names_kept`);
 //! - where there is no bridge, each machine keeps its number (`seats_plain`);
-//! - which machines a bridge takes the place of (`bridge_machines`), and whose ports those are (`bridge_ports`);
-//! - how many ports no bridge has, and where they stand among those (`open_ports`);
+//! - which machines a bridge takes the place of (`bridge_machines`), and which ports it has (`bridge_ports`);
+//! - how many ports no bridge has, and the place of each among them (`open_ports`);
 //! - entries without a fault fit (`bridges_fit`), and each that fits can be at the ports of a circuit (`bridges_attach`).
 
 mod laws;

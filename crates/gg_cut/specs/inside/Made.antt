@@ -71,8 +71,7 @@ pub record AreMachines (design : Ordered) (request : Request) (models : Models) 
   pub shared : (m n : ℕ) (any other : Machine) → m < length machines → n < length machines → m ≢ n → (slice_index_or machines m any).host ≡ (slice_index_or machines n other).host
       → AreAlike (slice_index_or machines m any).body (slice_index_or machines n other).body
 
--- A part whose needs can be computed: a well-formed piece in an order of evaluation, whose ports are a machine's
--- channels.
+-- A part with needs that can be computed: a well-formed piece in an order of evaluation. Its ports are a machine's channels.
 pub record IsServed (wires : List Wire) (part : Part) (taken given : List ℕ) : Type 0 where
   pub formed : IsWellFormed part.piece
   pub ordered : IsInOrder part.piece
@@ -81,7 +80,7 @@ pub record IsServed (wires : List Wire) (part : Part) (taken given : List ℕ) :
   pub ins : map (value_at part.globals) part.piece.ins ≡ signals_of wires taken
   pub outs : map (value_at part.globals) part.piece.outs ≡ givens_of wires given
 
--- The same of what a machine does: a part of the circuit is served; a source, a tray and a bridge have no needs to compute.
+-- `IsServed` for what a machine does: a part of the circuit is served; a source, a tray and a bridge have no needs to compute.
 abbrev pub IsServedBody : List Wire → Body → List ℕ → List ℕ → Type 0
 IsServedBody wires (Cut part) taken given = IsServed wires part taken given
 IsServedBody wires (Memory part) taken given = IsServed wires part taken given
