@@ -40,7 +40,7 @@ use std::alloc::{AllocError, Global};
 ///
 /// ```
 /// // The top has the input x, the output y and the instance a. In a, a register is between the input i and the output o.
-/// // a.i is x, and y is a.o. The request lists the unit a and nothing else, and its channels aren't direct.
+/// // a.i is x, and y is a.o. The request has only the unit a, and no direct channels.
 /// let plan = cut(alloc, &design, &request, 2, &models)?;
 /// // Machines: 0 hub:, 1 a, 2 in:x, 3 out:y.
 /// // Channels: 0 x from in:x to hub:, 1 a.i from hub: to a, 2 a.o from a to hub:, 3 y from hub: to out:y.

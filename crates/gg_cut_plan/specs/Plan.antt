@@ -68,7 +68,7 @@ Takes wires m s = Contains (signals_of wires (channels_to wires m)) s
 
 -- memory k of the circuit belongs to machine m
 pub record HasMemory (tree : InstanceTree) (listed : Listed) (m k : ℕ) : Type 0 where
-  -- its place among the memories of the tree
+  -- the memory's place among the memories of the tree
   pub place : ℕ
   pub known : place < length tree.memories
   pub is : (memory_at tree place).memory ≡ k

@@ -54,7 +54,7 @@ pub struct Machine {
     pub name: Name,
     /// The number of its host.
     pub host: u32,
-    /// What it does.
+    /// What the machine does.
     pub body: Body,
     /// The channels that it takes, ascending.
     pub ins: Ids,

@@ -1,7 +1,7 @@
 //! Numbers of machines with bridges, and what entries of bridges without a fault have.
 //!
-//! The definitions of the numbers are gg_cut_plan's (Seated); those in `specs/` say when entries fit a circuit and models
-//! (Fitting). Its functions are laws: they compute nothing. They say:
+//! The definitions of the numbers are in gg_cut_plan (Seated). The definitions in `specs/` say when entries fit a circuit and models (Fitting). Its
+//! functions are laws: they compute nothing. They say:
 //!
 //! - each machine of the cut has a number in the plan (`seats_known`), which it shares with none if no bridge takes its place
 //!   (`seats_apart`), and then it keeps its channels and its name (`channels_kept`, `names_kept`);

@@ -3,7 +3,7 @@
 //! A [`Shared`] runs the program of a piece for several threads. Each thread has a state, latches, flags and a cycle of
 //! its own, and its own ratios of clocks. Its outs are chosen among the program's outs, some perhaps several times. The
 //! slots hold one thread at a time. They are cleared when a token, a fire or a finish turns to another thread. A latch
-//! of a thread that hasn't the turn leaves them as they are. The crate promises:
+//! of a thread that doesn't have the turn leaves them as they are. The crate promises:
 //!
 //! - each step of a thread changes its machine as the definitions of gg_node say, and leaves every other thread's
 //!   machine as it was;

@@ -230,7 +230,7 @@ impl<'a> Shared<'a> {
         self.lanes[self.turn as usize].latch(&self.program, &mut self.slots, place, token);
     }
 
-    // Puts a token into the latch of an in of a thread that hasn't the turn. The slots stay.
+    // Puts a token into the latch of an in of a thread that doesn't have the turn. The slots stay.
     fn keep(&mut self, thread: u32, place: u32, token: u128)
         requires thread { thread < length self.old.lanes }
         requires other { self.old.turn ≢ thread }

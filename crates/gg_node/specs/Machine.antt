@@ -25,10 +25,10 @@ pub record Port : Type 0 where
 -- that it can do. `ratios` has a ratio for each clock of its piece. `needs` has for each out the ins that its token
 -- depends on. `port_count` is the number of ports of its memory, and `ports` are the ports that are served in a cycle,
 -- in their order; if the piece isn't a memory that is served there are 0 and none. (A reader that gives its word in the
--- same cycle is a port that no step serves.) The other fields change: the cycle that it is in, the state of its piece,
--- the number of ports that were served in this cycle, the latch of each in, which holds the token of this cycle or
--- nothing, the flag of each out, which says whether it has given the token of this cycle, and the values that it has
--- kept.
+-- same cycle is a port that no step serves.) The other fields change: `cycle` is the cycle that it is in, `state` the
+-- state of its piece, and `served` the number of ports that were served in this cycle. `latches` has for each in the
+-- token of this cycle or nothing, `flags` says for each out whether it has given its token, and `kept` are the values
+-- that it has kept.
 pub record Machine : Type 0 where
   pub behaviour : Behaviour
   pub limit : ℕ

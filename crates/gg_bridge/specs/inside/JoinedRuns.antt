@@ -33,7 +33,7 @@ RunsOfTheCircuit =
     → IsRunFrom (joined one front model sees drives) (joined_start start begin) columns n rows
     -- These inputs are the values of the circuit's in-signals in that run.
     → HasInputs rows inputs start.cycle n one.ins
-    -- On them the circuit's signals run as they do there.
+    -- On these inputs the circuit's signals run as they do in that run.
     → IsRunFrom one start inputs n (part_rows (range_with_len 0 (length one.signals)) rows)
 
 -- A run of a circuit with a model is a run of the model, on what the bridge sees.
@@ -47,7 +47,7 @@ RunsOfTheModel =
     → IsRunFrom (joined one front model sees drives) (joined_start start begin) columns n rows
     -- These inputs are the values of the signals that the bridge sees in that run.
     → HasInputs rows inputs start.cycle n sees
-    -- On them the model's signals, which come after the circuit's, run as they do there.
+    -- On these inputs the model's signals, which come after the circuit's, run as they do in that run.
     → IsRunFrom model (record { cycle = start.cycle; state = begin; ratios = [] }) inputs n (part_rows (globals_behind one model) rows)
 
 -- What a bridge drives has the columns of the model's out-signals.

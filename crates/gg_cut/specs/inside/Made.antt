@@ -47,7 +47,7 @@ IsTimedBody clocking (Bridge bridge) = Unit {0}
 abbrev pub IsTimedUnit : Listed → Clocking → ℕ → Body → Type 0
 IsTimedUnit listed clocking m body = first_unit ≤ m → m < first_memory listed → IsTimedBody clocking body
 
--- What machine m does, after the machines before it. If one of them is the first of its host, its part is like that one's.
+-- What machine m does, if these are the machines before it. If the first machine of its host is one of them, the two parts are alike.
 pub record IsMadeBody (design : Ordered) (request : Request) (models : Models) (listed : Listed) (hub : Hub) (clocking : Clocking) (machines : List Machine) (m : ℕ) (body : Body) : Type 0 where
   pub is : IsBody design request models listed hub m body
   pub ascend : HasAscending body

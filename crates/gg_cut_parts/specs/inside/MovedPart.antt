@@ -53,7 +53,7 @@ pub record IsUnitPart (design : Ordered) (listed : Listed) (clocking : Clocking)
   pub memories : (k : ℕ) → Contains part.memories k ↔ HasMemory design.tree listed m k
   pub ordered : IsInOrder part.piece
 
--- the signals by themselves are the same as those that machine m, a unit, gives its channels by
+-- exactly the signals that give the channels of machine m, a unit, their values before the routing
 abbrev pub AreGivens : Ordered → Listed → ℕ → List ℕ → Type 0
 AreGivens design listed m givens = (s : ℕ) → Contains givens s ↔ Contains (givens_of (cut_wires design listed) (channels_from (cut_wires design listed) m)) s
 

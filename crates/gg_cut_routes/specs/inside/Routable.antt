@@ -33,7 +33,7 @@ pub record CanRoute (circuit : FlatCircuit) (tree : InstanceTree) (order : List 
   -- the hub's signals are just the signals that it makes or takes
   pub signals : (s : ℕ) → Contains globals s ↔ (Makes circuit tree listed (wires_of circuit tree listed) 0 s ⊎ Takes (wires_of circuit tree listed) 0 s)
   pub banks : (k : ℕ) → Contains memories k ↔ HasMemory tree listed 0 k
-  -- they make a part, which gets what the hub's in-channels carry, and gives what its out-channels carry
+  -- they make a part; it gets what the hub's in-channels carry, and gives what its out-channels carry
   pub choice : IsChoice circuit globals (signals_of (wires_of circuit tree listed) (channels_to (wires_of circuit tree listed) 0)) (givens_of (wires_of circuit tree listed) (channels_from (wires_of circuit tree listed) 0)) memories
 
 -- the marks are on the signals that leave the plan, and on no other signals of the circuit

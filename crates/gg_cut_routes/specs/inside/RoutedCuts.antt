@@ -27,7 +27,7 @@ ChannelsAreRouted =
     (design : Ordered) (listed : Listed) (piped driven : ℕ → Bool) (direct : Bool)
     -- The design keeps to its tree, and what is listed is apart.
     → IsDesign design → KeepsToTree design.circuit design.tree → AreApart design.tree listed
-    -- Its routed channels are good, whatever is piped, driven or direct.
+    -- The cut's routed channels are good, whatever is piped, driven or direct.
     → AreRoutes design listed (hub_of design.circuit design.tree listed piped driven direct)
 
 -- The channels of the plan of a request make parts of the circuit.

@@ -32,7 +32,7 @@ cut_wires design listed = wires_of design.circuit design.tree listed
 abbrev pub HasSignal : Ordered → Listed → ℕ → ℕ → Type 0
 HasSignal design listed m s = Makes design.circuit design.tree listed (cut_wires design listed) m s ⊎ Takes (cut_wires design listed) m s
 
--- the number for unit n of what has number s for unit m
+-- the number in unit n of what has number s in unit m
 abbrev pub again_at : Ordered → Listed → ℕ → ℕ → ℕ → ℕ
 again_at design listed m n s = shifted (unit_first design.tree listed m) (unit_first design.tree listed n) s
 

@@ -15,7 +15,7 @@ use Rattle.gg_program.specs.Right.{InCycle}
 use Rattle.gg_fame5.specs.Machine.{unit_machine}
 use Rattle.gg_fame5.specs.inside.Fork.{out_of, out_count, AreOuts, forked}
 
--- Which outs of the program it has, a ratio for each clock, the cycle that it is in, its state, its latches and its flags.
+-- A lane: which outs of the program it has, a ratio for each clock, the cycle that it is in, its state, its latches and its flags.
 pub record Laned : Type 0 where
   -- the places of the program's outs that the lane gives; all of them where there is no list
   pub outs : Option (List ℕ)
