@@ -40,7 +40,7 @@ held_behind one model = range_with_len (length one.registers) (length model.regi
 abbrev pub memories_behind : (one model : FlatCircuit) → List ℕ
 memories_behind one model = range_with_len (length one.memories) (length model.memories)
 
--- the model's signals, registers and memories get the numbers in these lists; each clock of a model is every tick
+-- the model's signals, registers and memories get the numbers in these lists; the model has no clock of its own
 abbrev pub behind_by : (globals held memories : List ℕ) → Renaming
 behind_by globals held memories = record { signals = value_at globals; registers = value_at held; memories = value_at memories; clocks = λ clock. None }
 

@@ -9,8 +9,8 @@ use gg_flat::Piece;
 
 /// A model in the host's own code, at the ports of a circuit's top. It answers a cycle's outputs with the next cycle's inputs. No call allocates.
 ///
-/// A contract sees a flat circuit, which never changes, and a state of it. The circuit is well formed, has no combinational loop and no clock except
-/// every tick, and no out-signal of it is an in-signal or depends on one in the same cycle (`IsModel`).
+/// A contract sees a flat circuit, which never changes, and a state of it. The circuit is well formed, has no combinational loop and no clock of its
+/// own, and no out-signal of it is an in-signal or depends on one in the same cycle (`IsModel`).
 ///
 /// # Examples
 ///

@@ -63,8 +63,8 @@ pub fn joined_all_states()
     ensures zeros { (one : FlatCircuit) (bridges : List Attached) → joined_states (opening one) bridges ≡ opening (joined_all one bridges) }
 {}
 
-/// Bridges can be at a circuit's ports one after the other, if each can be at its own ports, no two drive the same input, and the paths of their
-/// models differ.
+/// Bridges can be at a circuit's ports one after the other, if each can be at the circuit's own ports, no two drive the same input, and the paths of
+/// their models differ.
 pub fn bridges_join()
     ensures { (one : FlatCircuit) (bridges : List Attached) → IsWellFormed one → CanAttachEach one bridges → CanAttachAll one bridges }
 {}

@@ -134,7 +134,7 @@ fn open_count(takers: &[u32]) -> usize
     count
 }
 
-// The number of each machine, where the sources, the trays and the bridges begin so.
+// The number of each machine, if the sources, the trays and the bridges begin at `starts`.
 fn seat_numbers(
     alloc: Global,
     _draft: &Draft,

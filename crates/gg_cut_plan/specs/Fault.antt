@@ -21,7 +21,7 @@ use Rattle.gg_cut_plan.specs.Bridges.{Models, bridge_faults}
 
 -- ---- entries that name nothing
 
--- the first of these that isn't an instance path
+-- the first of these paths that isn't an instance's
 abbrev pub unknown_unit : InstanceTree → List (List ℕ) → Option (List ℕ)
 unknown_unit tree units = find (λ path. not (is_instance_path tree path)) units
 
@@ -181,7 +181,7 @@ later_faults circuit tree request =
 abbrev pub faults_in : FlatCircuit → InstanceTree → Request → List (Option CutFault)
 faults_in circuit tree request = entry_faults tree request ++ later_faults circuit tree request
 
--- the first of these faults, if there is one
+-- the first of all faults except the faults of bridges, if there is one
 abbrev pub fault_in : FlatCircuit → InstanceTree → Request → Option CutFault
 fault_in circuit tree request = first_of (faults_in circuit tree request)
 

@@ -77,7 +77,7 @@ seated b wires = map (seated_wire b) wires
 abbrev pub lister : (BridgeEntry → List (List ℕ)) → List BridgeEntry → List ℕ → Option ℕ
 lister ports entries path = first_place (λ entry. is_among (ports entry) path) entries
 
--- The bridges of these entries at a circuit's ports. Its first out-signals are outputs, the others stops. A name in an entry that no port has is left
+-- The bridges of these entries at a circuit's ports. Its first out-signals are outputs, the others stops. An entry's name that no port has is left
 -- out.
 abbrev pub bridges_of : FlatCircuit → (outputs : ℕ) → Listed → List BridgeEntry → Bridges
 bridges_of circuit outputs listed entries =

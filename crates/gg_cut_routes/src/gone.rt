@@ -14,8 +14,8 @@ use gg_cut_plan::marks_of;
 use gg_flat::Piece;
 use std::alloc::{AllocError, Global};
 
-// Marks on the signals that leave: the origins of direct channels that nothing which is kept needs, and their copies. `made` has the
-// signals that the hub makes, `memories` its memories.
+// Marks on the signals that leave: the origins of direct channels, if nothing that is kept needs them, and their copies. `made` has the signals that
+// the hub makes, `memories` its memories.
 //
 // # Errors
 //

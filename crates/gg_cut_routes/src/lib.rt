@@ -13,8 +13,8 @@
 //!   doesn't take what it gives; the hub, a unit and a listed memory make parts of the circuit; a source gives its input on
 //!   one or more channels, and a tray takes one. A request without a fault has such channels (`plan_is_routed`).
 //!
-//! The pass is linear: a table of what each signal is to the hub, one of origins along the order of evaluation, marks on
-//! what the hub names, and one look at each channel.
+//! The pass is linear. It uses a table of what each signal is to the hub, a table of origins along the order of evaluation, marks on what the hub
+//! names, and one look at each channel.
 #![tactic(auto)]
 
 mod barred;

@@ -72,7 +72,7 @@ fn push_driver_of(names: &mut Vec<u32>, piece: &Piece, signal: u32) -> Result<()
     )
 }
 
-// Adds what a driver names, which a signal of the circuit may have.
+// Adds what a driver of the circuit names.
 fn push_driver(
     names: &mut Vec<u32>,
     piece: &Piece,

@@ -30,7 +30,9 @@ use std::sync::ledger::{Blank, Ledger};
 /// # Examples
 ///
 /// ```
-/// // The piece is a register that takes in 0 in each cycle, and is out 0. Both threads have this out.
+/// // The piece has one register. It takes the token of in 0 in each cycle, and out 0 gives its value. Both threads
+/// have
+/// // out 0.
 /// let program = Program::of(alloc, &piece)?;
 /// let mut shared = Shared::with_clocks(alloc, program, &outs, &ratios)?;
 /// shared.latch(0, 0, 5);

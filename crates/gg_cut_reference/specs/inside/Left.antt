@@ -17,13 +17,13 @@ UnseenAreCounted =
     (circuit : FlatCircuit) (tree : InstanceTree) (request : Request)
     → count_below (unseen (plan_bridges circuit tree request)) (length circuit.outs) ≡ length (open_outs circuit (length circuit.outs - length tree.stops) request) + length (drop (length circuit.outs - length tree.stops) circuit.outs)
 
--- No bridge drives an input exactly if no entry lists the input's path.
+-- An input is undriven exactly if no entry lists its path in `drives`.
 abbrev pub UndrivenAreUnlisted : Type 0
 UndrivenAreUnlisted =
     (circuit : FlatCircuit) (tree : InstanceTree) (request : Request) (p : ℕ)
     → undriven (plan_bridges circuit tree request) p ≡ not (is_among (all_driven request.bridges) (path_at circuit.paths (value_at circuit.ins p)))
 
--- No bridge sees an output exactly if no entry lists the output's path.
+-- An output is unseen exactly if no entry lists its path in `sees`.
 abbrev pub UnseenAreUnlisted : Type 0
 UnseenAreUnlisted =
     (circuit : FlatCircuit) (tree : InstanceTree) (request : Request) (p : ℕ)

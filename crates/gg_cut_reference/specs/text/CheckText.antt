@@ -46,7 +46,7 @@ pub record AreChannelNeeds (circuit : FlatCircuit) (listed : Listed) (wires : Li
 
 -- ---- lines
 
--- `UInt<w>` or `SInt<w>`
+-- the text of a type up to its width: `UInt<` or `SInt<`
 abbrev pub kind_text : Kind → List ℕ
 kind_text UInt = codes "UInt<"
 kind_text SInt = codes "SInt<"
@@ -55,7 +55,7 @@ kind_text SInt = codes "SInt<"
 abbrev pub type_text : Shape → List ℕ
 type_text shape = kind_text shape.kind ++ decimal shape.width ++ codes ">"
 
--- the names of needed channels with a blank before each, or ` -`
+-- the names of needed channels, each after a blank
 abbrev pub spaced : List (List ℕ) → List ℕ
 spaced [] = []
 spaced (name ∷ names) = 32 ∷ name ++ spaced names

@@ -52,21 +52,21 @@ IsSide wires globals s (In producer) = IsCarried wires s producer 0
 abbrev pub AreSides : List Wire → List ℕ → List Side → Type 0
 AreSides wires globals sides = (s : ℕ) → IsSide wires globals s (side_at sides s)
 
--- whether the hub takes such a signal
+-- whether the hub takes a signal of this side
 abbrev pub is_in : Side → Bool
 is_in Other = false
 is_in Own = false
 is_in Out = false
 is_in (In producer) = true
 
--- whether the hub makes such a signal, and no channel carries it
+-- whether the hub makes a signal of this side, and no channel carries it
 abbrev pub is_inner : Side → Bool
 is_inner Other = false
 is_inner Own = true
 is_inner Out = false
 is_inner (In producer) = false
 
--- whether the hub makes such a signal
+-- whether the hub makes a signal of this side
 abbrev pub is_makers : Side → Bool
 is_makers Other = false
 is_makers Own = true
