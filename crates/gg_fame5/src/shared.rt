@@ -30,9 +30,7 @@ use std::sync::ledger::{Blank, Ledger};
 /// # Examples
 ///
 /// ```
-/// // The piece has one register. It takes the token of in 0 in each cycle, and out 0 gives its value. Both threads
-/// have
-/// // out 0.
+/// // The piece has one register, which takes the token of in 0 in each cycle and is out 0. Both threads have out 0.
 /// let program = Program::of(alloc, &piece)?;
 /// let mut shared = Shared::with_clocks(alloc, program, &outs, &ratios)?;
 /// shared.latch(0, 0, 5);
