@@ -12,8 +12,8 @@ use gg_flat::Piece;
 use gg_order::{Design, Order, OrderFault, no_loop, order};
 use std::alloc::{AllocError, Global};
 
-/// The design with a model in it, whose signals have paths with this front. The bridge sees the signals `sees`, one for each
-/// in-signal of the model, and drives the in-signals `drives`, one for each out-signal. The tree is that of the design.
+/// The design with a model in it. The paths of the model's signals get this front. The bridge sees the signals `sees`, one for each in-signal of the
+/// model, and drives the in-signals `drives`, one for each out-signal. The tree is the design's.
 ///
 /// # Errors
 ///

@@ -120,8 +120,8 @@ fn heading_of(alloc: Global, places: &Places, number: usize) -> Result<Heading, 
     Ok(Heading { name, ins, outs })
 }
 
-// What a machine does, after the machines before it: by its number it has a part, or is a source, a tray or a bridge. `table` has 0
-// for each signal, before and after.
+// What a machine does, by its number and the earlier machines: it has a part, or is a source, a tray or a bridge. `table` has 0 for each signal,
+// before and after.
 fn body_at(
     alloc: Global,
     making: &Making,
@@ -180,7 +180,7 @@ fn bridge_at(
     Ok(body)
 }
 
-// What the hub, a unit or a listed memory does, after the machines before it.
+// What the hub, a unit or a listed memory does, by its number and the earlier machines.
 fn part_at(
     alloc: Global,
     making: &Making,

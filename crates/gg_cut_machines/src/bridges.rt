@@ -15,7 +15,8 @@ use gg_flat::Piece;
 use gg_partfile::BridgeEntry;
 use std::alloc::{AllocError, Global};
 
-/// What the bridge of an entry does that takes and gives these channels. `table` has 0 for each signal, before and after.
+/// What the bridge of an entry does, if it takes and gives these channels. `table` has 0 for each signal, before and
+/// after.
 ///
 /// # Errors
 ///

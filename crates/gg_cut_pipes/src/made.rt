@@ -137,7 +137,7 @@ fn signal_of(
     })
 }
 
-// A word with the path of a signal behind it.
+// A word followed by the path of a signal.
 fn path_behind(alloc: Global, word: &str, one: &Piece, signal: u32) -> Result<Name, AllocError>
     requires { signal < length one.now.paths }
     ensures { IfOk result (λ name. name ≡ word.now ++ path_at one.now.paths signal) }
@@ -158,7 +158,7 @@ fn refused(error: AddError) -> AllocError
     }
 }
 
-// Adds the signals of the pipes, behind all others.
+// Adds the signals of the pipes, after all others.
 fn add_pipes(alloc: Global, one: &Piece, pipes: &[u32], piece: &mut Piece) -> Result<(), AllocError>
     requires known { All (λ c. c < length one.now.signals) pipes.now }
     requires count { length piece.old.signals ≡ length one.now.signals }

@@ -13,9 +13,8 @@ use gg_flat::Piece;
 use gg_order::{Design, Order};
 use std::alloc::{AllocError, Global};
 
-/// The reference circuit of a plan: the design, and for each piped channel a register that takes the channel's value in each tick.
-/// Where the channel's consumer names the channel, it names the register in its place. The tree is that of the design. The pipes
-/// are the first in the order.
+/// The reference circuit of a plan: the design, and for each piped channel a register that takes the channel's value in each tick. Where the
+/// channel's consumer names the channel, it names the register in its place. The tree is the design's. The pipes are the first in the order.
 ///
 /// # Errors
 ///

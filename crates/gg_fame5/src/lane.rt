@@ -258,7 +258,7 @@ impl Lane {
         self.timing.advance();
     }
 
-    // Makes slots hold this lane: those inputs are put that have tokens, and nothing else is done.
+    // Makes slots hold this lane: exactly the inputs with tokens are put, and no other signal is done.
     pub(crate) fn load(&self, program: &Program<'_>, slots: &mut Slots)
         requires lane { IsLane program.now.circuit self.now }
         requires slots { AreSlots program.now.circuit slots.old }

@@ -11,8 +11,18 @@ use crate::latches::clear_flags;
 use std::alloc::{AllocError, Global};
 use std::marker::Model;
 
-/// Gives the values of a column, one in each cycle, at each of its outs. It is a host of one thread, whose machine has
-/// at least one out and no ins. A contract sees it as this machine.
+/// Gives the values of a column, one in each cycle, at each of its outs. It is a host of one thread. The thread's
+/// machine has at least one out and no ins, and a contract sees the source as this machine.
+///
+/// # Examples
+///
+/// ```
+/// let mut source = Source::new(column); // the column 5, 7
+/// source.fire(0, 0); // 5, the token of out 0 in cycle 0
+/// source.finish(0);
+/// source.cycle(0); // 1
+/// source.fire(0, 0); // 7
+/// ```
 pub struct Source {
     column: Vec<u128>,
     cycle: u64,
@@ -69,7 +79,7 @@ impl Source {
         Source::from_cycle(alloc, column, outs, 0)
     }
 
-    /// A source of this many outs that is in this cycle. Its column has a value for each cycle, from cycle 0 on.
+    /// A source of this many outs that is in this cycle. The first value of its column is the value of cycle 0.
     ///
     /// # Errors
     ///

@@ -13,8 +13,22 @@ use std::alloc::{AllocError, Global};
 use std::collections::VecDeque;
 use std::marker::Model;
 
-/// Keeps the last values that it gets, one in each cycle. It is a host of one thread, whose machine has one in and no
-/// outs. A contract sees it as this machine.
+/// Keeps the last values that it gets, one in each cycle. It is a host of one thread. The thread's machine has one in
+/// and no outs, and a contract sees the tray as this machine.
+///
+/// # Examples
+///
+/// ```
+/// let mut tray = Tray::new(alloc, 2)?;
+/// for value in [3, 4, 5] {
+///     tray.latch(0, 0, value);
+///     tray.finish(0);
+/// }
+/// tray.value(0); // None: it keeps two values, of cycles 1 and 2
+/// tray.value(1); // Some(4)
+/// tray.value(2); // Some(5)
+/// tray.value(3); // None: cycle 3 isn't finished
+/// ```
 pub struct Tray {
     // The oldest first.
     kept: VecDeque<u128>,
