@@ -7,7 +7,7 @@ use Rattle.gg_flat.specs.Streams.{Flow}
 
 -- ---- streams
 
--- The stream of a link: the list of a channel, from place `start` on. A channel without a list has an empty one.
+-- The stream of a link: the list of a channel, starting at place `start`. A channel without a list has an empty stream.
 abbrev pub stream_of : Flow → ℕ → ℕ → List ℕ
 stream_of flow which start = drop start (slice_index_or flow.lists which [])
 
@@ -52,7 +52,7 @@ pub record Counted (old new : SeatState) : Type 0 where
   pub went_on : SeatWentOn old new
   pub count : new.count ≡ old.count + 1
 
--- A count of 64 bits rose, or stands at its end.
+-- A count of 64 bits rose, or is at its end.
 abbrev pub Rose : ℕ → ℕ → Type 0
 Rose old new = (old < new) ⊎ (new ≡ 18446744073709551615)
 

@@ -64,7 +64,7 @@ ServesRows piece start rows end (port ∷ ports) = (t : ℕ) → start.cycle ≤
 pub record RunsRows (piece : FlatCircuit) (kind : Kind) (start : Start) (rows : List (List ℕ)) (end : ℕ) : Type 0 where
   pub formed : IsWellFormed piece
   pub once : SettlesOnce piece
-  -- the ins that an out needs tell its value, whatever the others are
+  -- the ins that an out needs determine its value, whatever the others are
   pub suffice : (o : ℕ) → o < length piece.outs → DependsOn piece (value_at piece.outs o) (needs_at kind.needs o)
   pub ins : kind.ins ≡ length piece.ins
   pub outs : kind.outs ≡ length piece.outs
@@ -89,9 +89,9 @@ Asks (RunsPiece piece) rows i t value = value_at (row_at rows t) (value_at piece
 Asks (GivesColumn column) rows i t value = ⊥
 Asks (KeepsLast kept) rows i t value = ⊤
 
--- A flow solves a network. Each machine can do all cycles, and its rows are a run. Each channel's list has a value for
--- each cycle: from the beginning on, it is what the consumer's in takes in that cycle, and what the producer's out
--- gives in that cycle or, if the channel opens with a token, in the cycle before. That token is the first of all.
+-- A flow solves a network. Each machine can do all cycles, and its rows are a run. Each channel's list has a value for each cycle since the
+-- beginning: the consumer's in takes it in that cycle. The producer's out gives it in that cycle or, if the channel opens with a token, in the cycle
+-- before. That token is the value of the first cycle.
 pub record Solves (flow : Flow) (frame : Frame) : Type 0 where
   pub begins : flow.begin ≤ frame.end
   pub able : (m : ℕ) → m < length frame.kinds → frame.end ≤ (kind_at frame.kinds m).limit
@@ -183,10 +183,10 @@ KeepsNone (RunsPiece piece) kept = kept ≡ []
 KeepsNone (GivesColumn column) kept = kept ≡ []
 KeepsNone (KeepsLast rows) kept = ⊤
 
--- This can be the machine at place m. It has the kind of that place. It is at or past the beginning, and has done at
--- most all cycles. Its state is that of its rows. A latch that isn't empty holds its channel's value of this cycle. An
--- out has given its token only if all that it needs was latched. Ports were served only after all outs had given their
--- tokens, with the ports' fields latched. A tray has kept the last values of its channel, another machine none.
+-- This can be the machine at place m. It has the kind of that place. Its cycle isn't before the beginning, nor past the end. Its state is the state
+-- of its rows. A latch that isn't empty contains its channel's value of this cycle. An out has given its token only if all that it needs was latched.
+-- Ports were served only after all outs had given their tokens, with the ports' fields latched. A tray has kept the last values of its channel,
+-- another machine none.
 pub record MachineAt (flow : Flow) (frame : Frame) (m : ℕ) (machine : Machine) : Type 0 where
   pub kind : kind_of machine ≡ kind_at frame.kinds m
   pub begun : flow.begin ≤ machine.cycle
@@ -206,7 +206,7 @@ pub record MachineAt (flow : Flow) (frame : Frame) (m : ℕ) (machine : Machine)
 pub record Kept (flow : Flow) (net : Network) : Type 0 where
   pub queues : length net.queues ≡ length net.wires
   pub sound : IsSound flow (frame_of net)
-  -- each machine is where its rows of the flow say in its cycle
+  -- each machine agrees with its rows of the flow in its cycle
   pub machines : (m : ℕ) → m < length net.machines → MachineAt flow (frame_of net) m (machine_at net.machines m)
-  -- a queue has the tokens of its channel's list from those that were taken to those that have entered, and no more than its capacity
+  -- a queue is the part of its channel's list that has entered and wasn't taken, and is no longer than the capacity
   pub channels : (c : ℕ) → c < length net.wires → BetweenAt (list_at flow.lists c) (wire_at net.wires c).capacity (takes net c) (entered net c) (queue_at net.queues c)

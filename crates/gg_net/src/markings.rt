@@ -11,12 +11,11 @@
 //! Its functions are laws: they compute nothing. Each wired network has a layout ([`each_has_layout`]). For a
 //! network that has a layout (`specs/inside/Fits`) and the invariant `Kept` of gg_net, it promises:
 //!
-//! - an event may be done exactly if the marking doesn't refuse it, every other event is refused for the marking's
-//!   cause, and a step changes the marking as its event does
-//!   ([`goes_by_marking`]);
+//! - an event may be done exactly if the marking doesn't refuse it, every other event is refused for the marking's cause, and a step changes the
+//!   marking as its event does ([`goes_by_marking`]);
 //! - the network begins with the opening marking ([`opens_with_marking`]);
-//! - the numbers of tokens that were put into a channel, were taken from it and are held are those of the marking, and
-//!   the newest token is a value of the channel's list ([`counts_by_marking`]);
+//! - the marking has the numbers of tokens that were put into a channel, were taken from it and are held, and the newest token is a value of the
+//!   channel's list ([`counts_by_marking`]);
 //! - a token is put exactly when the channel is fired, as the next value of the channel's list ([`puts_by_step`]);
 //! - what a list of steps does to the marking determines where the steps lead, or which of them is refused first and
 //!   why ([`steps_keep`], [`steps_by_marking`]).

@@ -9,7 +9,7 @@ use Rattle.gg_ring.specs.declared.ring.Ring.{Ring}
 abbrev pub put_state : PutSeat → SeatState
 put_state s = seat_state s.seat.me.0.stream s.seat.me.0.capacity s.puts s.seen s.seat.me.0.looks
 
--- the same of a seat that takes
+-- what is seen of a seat that takes: the stream and the capacity of its ring, and its counts
 abbrev pub take_state : TakeSeat → SeatState
 take_state s = seat_state s.seat.me.0.stream s.seat.me.0.capacity s.takes s.seen s.seat.me.0.looks
 
@@ -21,11 +21,11 @@ IsPutSeatOf ring s = (s.seat.table_id ≡ ring.table.shared.table_id) × (s.seat
 abbrev pub IsTakeSeatOf : Ring → TakeSeat → Type 0
 IsTakeSeatOf ring s = (s.seat.table_id ≡ ring.table.shared.table_id) × (s.seat.me.0.capacity ≡ ring.capacity)
 
--- how many atomic steps the seat has made
+-- how many atomic steps a seat that puts has made
 abbrev pub put_moves : PutSeat → ℕ
 put_moves s = s.seat.me.0.moves
 
--- the same of a seat that takes
+-- how many atomic steps a seat that takes has made
 abbrev pub take_moves : TakeSeat → ℕ
 take_moves s = s.seat.me.0.moves
 

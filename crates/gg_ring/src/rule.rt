@@ -29,7 +29,7 @@ pub(crate) struct View {
     pub(crate) moves: u64,
 }
 
-// The rule of a ring of so many places.
+// The rule of a ring.
 pub(crate) struct RingRule;
 
 impl TableRule<(), View, u64> for RingRule {

@@ -14,7 +14,7 @@ pub(crate) struct View {
     pub(crate) capacity: u64,
     pub(crate) put: u64,
     pub(crate) taken: u64,
-    // how many puts the seat that takes was told of when it was made
+    // how many puts the seat that takes knew of when it was made
     pub(crate) known: u64,
 }
 

@@ -1,4 +1,4 @@
--- More on Words: what no promise of the program's speaks of.
+-- More on Words: definitions that no promise of the program reaches.
 -- Source: this program's own form: there is one blank, a space or a tab, between words.
 use Rattle.std.specs.Prelude.{ℕ, List, [], Option, Some, None}
 use Rattle.gg_replay.specs.steps_file.Words.{words}

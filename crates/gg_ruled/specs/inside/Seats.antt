@@ -10,7 +10,7 @@ use Rattle.gg_ruled.specs.declared.ruled.Ruled.{Ruled}
 abbrev pub put_state : PutSeat → SeatState
 put_state s = seat_state (view s.pass).stream (view s.pass).capacity s.puts s.seen s.looks
 
--- the same of a seat that takes
+-- what is seen of a seat that takes: the stream and the capacity of its queue, and its counts
 abbrev pub take_state : TakeSeat → SeatState
 take_state s = seat_state (view s.pass).stream (view s.pass).capacity s.takes s.seen s.looks
 
