@@ -1,10 +1,10 @@
-//! `Order`: the steps of one cycle, in the order in which they were done.
+//! `Order`: the steps of one cycle, as they were done one after another.
 use gg_net::{Event, Net, Streams};
 use gg_node::Host;
 use std::alloc::{AllocError, Global};
 
-/// The steps of one cycle of a network, in the order in which they were done. An order has no invariant, because it only says what is tried next.
-/// Therefore an empty order is right, and so is one of another network.
+/// The steps of one cycle of a network, as they were done one after another. An order has no invariant: it says only what
+/// is tried next. Therefore an empty order is right, and so is one of another network.
 #[derive(Drop)]
 pub struct Order {
     events: Vec<Event>,
@@ -67,7 +67,7 @@ impl Order {
         }
     }
 
-    /// The steps, in the order in which they were done.
+    /// The steps, as they were done one after another.
     pub fn events(&self) -> &[Event] {
         &self.events
     }

@@ -71,7 +71,7 @@ pub(crate) struct ReturnLists<H, S, T> {
     pub(crate) puts: Vec<T>,
 }
 
-// Lists with room for so many hosts and channels.
+// Lists with room for this many hosts and channels.
 pub(crate) fn new_return_lists<H: Drop, S: Drop, T: Drop>(
     alloc: Global,
     hosts: usize,

@@ -48,7 +48,7 @@ fn thread_counts<H: Host>(alloc: Global, hosts: &[H]) -> Result<Vec<u32>, AllocE
     Ok(counts)
 }
 
-// So many workers without hosts, each with room for all.
+// This many workers without hosts, each with room for all.
 fn idle_workers<H: Drop, S: Drop, T: Drop>(
     alloc: Global,
     count: u32,

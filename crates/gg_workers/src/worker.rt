@@ -1,7 +1,7 @@
 //! `LinkedHost` and `Worker`: what one host and one thread of the system have.
 use gg_workers_pass::MachineSeats;
 
-// A host with the seats of its machines, by thread. `S` are the seats that take, `T` those that put.
+// A host with the seats of its machines, by thread. `S` are the seats that take, and `T` the seats that put.
 #[derive(Drop)]
 pub(crate) struct LinkedHost<H, S, T> {
     // The number of the host.

@@ -4,6 +4,6 @@
 use Rattle.std.specs.Prelude.{ℕ, ◌<◌}
 use Rattle.gg_node.specs.Machine.{Machine}
 
--- a machine is below the cycle up to which machines are stepped
+-- a machine is below this cycle
 abbrev pub StandsBelow : ℕ → Machine → Type 0
 StandsBelow upto x = x.cycle < upto

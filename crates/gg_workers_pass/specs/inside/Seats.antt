@@ -1,4 +1,4 @@
--- What the seats of a network's links count, while links stand for its first channels and queues for the others.
+-- The seats of a network's links and their counts. The first channels have links, the others queues.
 -- Source: MEMOCODE 2009 (a queue holds the tokens that were put and not yet taken).
 use Rattle.std.specs.Prelude.{◌≡◌, ℕ, ◌+◌, ◌<◌, ◌≤◌, List, [], Some, length, slice_index_or, slice_get}
 use Rattle.gg_flat.specs.Streams.{Flow}
@@ -34,7 +34,7 @@ with_tokens queue tokens = record { tokens = tokens; room = queue.room }
 abbrev pub emptied : Held → Held
 emptied queue = with_tokens queue []
 
--- Each of these machines may stand at its place.
+-- Each of these machines can be the one at its place.
 pub record MayStand (flow : Flow) (net : Network) (machines : List Machine) : Type 0 where
   pub long : length machines ≡ length net.machines
   pub each : (m : ℕ) → m < length net.machines → MachineAt flow (frame_of net) m (machine_at machines m)
@@ -47,8 +47,8 @@ module _ {X S T : Type 0} (takes_from : X → S → Type 0) (puts_into : X → T
     pub given : SeatCounts flow net c (enters_by (frame_of net) (machine_at machines (wire_at net.wires c).producer) c) (putting put)
     pub got : SeatCounts flow net c (takes_by (frame_of net) (machine_at machines (wire_at net.wires c).consumer) c) (taking take)
 
-  -- The first channels have links with seats, and their queues are empty. The queues of the others hold the tokens between
-  -- the counts of these machines.
+  -- The first channels have links with seats, and their queues are empty. The queues of the others contain the tokens between the counts of these
+  -- machines.
   pub record Linked (links : List X) (put_seats : List T) (take_seats : List S) (queues : List Held) : Type 0 where
     pub few : length links ≤ length net.wires
     pub put_count : length put_seats ≡ length links

@@ -1,4 +1,4 @@
--- More on Tries: what no promise of the program's speaks of.
+-- More on Tries: definitions that no promise of the program reaches.
 -- Source: MEMOCODE 2009 (when a node takes a token, gives one and finishes a cycle); ICCAD 2019 for memories that are
 -- served port by port.
 use Rattle.std.specs.Prelude.{◌≡◌, ℕ, ◌+◌, List, Some, None, Bool, true, false, slice_set, slice_get}
@@ -103,7 +103,7 @@ abbrev pub FinishTried : List Machine → ℕ → List Machine → Bool → Type
 FinishTried old thread new true = HasFinished old thread new
 FinishTried old thread new false = HasNotFinished old thread new
 
--- what was done by whether the end of a cycle was to be tried, and by whether it was done
+-- the end of a cycle was tried, by whether it was done; or it wasn't to be tried, and nothing was done
 abbrev pub FinishTriedIf : Bool → List Machine → ℕ → List Machine → Bool → Type 0
 FinishTriedIf true old thread new done = FinishTried old thread new done
 FinishTriedIf false old thread new done = (done ≡ false) × (new ≡ old)
