@@ -18,7 +18,7 @@
 //! a pass again. The gate is passed at the start of a turn. A worker ends before a turn where none of its machines is below `upto`, or after 1,024
 //! turns in a row without a step. Where a thread can't be started, the caller's does the work. All memory is taken before the first step.
 //!
-//! Therefore steps lead from the network to the one that comes back ([`later_by_steps`]).
+//! Therefore steps lead from the network to the network that comes back ([`later_by_steps`]).
 #![tactic(auto)]
 
 mod apart;
