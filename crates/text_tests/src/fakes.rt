@@ -47,7 +47,7 @@ impl Write for Few {
     }
 }
 
-// What no test asks for.
+// The answer of calls that no test makes.
 fn unsupported<T>() -> io::Result<T> {
     Err(io::Error::from(io::ErrorKind::Unsupported))
 }

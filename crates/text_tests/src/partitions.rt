@@ -1,4 +1,4 @@
-//! gg_partfile: a partition with all its keys is read, and faults tell the key.
+//! gg_partfile: a partition with all its keys is read, and faults name the key.
 use gg_partfile::{Request, read_partition};
 
 static WHOLE: &str =
