@@ -1,4 +1,4 @@
--- More on Replayed: what no promise of the program's speaks of.
+-- More on Replayed: definitions that no promise of the program reaches.
 -- Source: this program's own.
 use Rattle.std.specs.Prelude.{◌≡◌, ℕ, ◌<◌, ◌^◌, length}
 use Rattle.gg_flat.specs.Run.{Start}
