@@ -18,11 +18,11 @@ use Rattle.golden_commands.specs.Run.{IsTextOf, circuit_file, trace_file_for}
 use Rattle.golden_commands.specs.RunText.{shown_ports}
 
 -- The text of the network of a cut. The bytes of a circuit, a partition and a trace mean a design, a request and columns for some cycles. The network
--- is the one of the request's plan, with this capacity of the channels that the request doesn't name. The text is a header, and a row for each cycle:
--- the values of that cycle that host steps bring to the trays of the top's outputs that no bridge sees. `kept` has a column for each of these, and
--- then for each stop. The last row is the row of the first cycle where a stop acts, if one does: a 1 comes to the tray of the stop for it, and the
--- stop's clock has an edge, by the request's ratios. No other values come to the trays in these cycles, whatever steps are done. The circuit's run
--- has no part in this definition.
+-- is the network of the request's plan, with this capacity of the channels that the request doesn't name. The text is a header, and a row for each
+-- cycle: the values of that cycle that host steps bring to the trays of the top's outputs that no bridge sees. `kept` has a column for each of these,
+-- and then for each stop. The last row is the row of the first cycle where a stop acts, if one does: a 1 comes to the tray of the stop for it, and
+-- the stop's clock has an edge, by the request's ratios. No other values come to the trays in these cycles, whatever steps are done. The circuit's
+-- run has no part in this definition.
 pub record IsNetworkText (known : Known) (circuit partition trace : List ℕ) (capacity : ℕ) (text : List ℕ) : Type 0 where
   pub meant : Meaning
   pub is_meant : IsMeaning known circuit partition trace meant

@@ -46,7 +46,7 @@ pub record IsUpto (whole : Fed) (at : ℕ) (fed : Fed) : Type 0 where
 
 -- ---- `save`
 
--- the first cycle where a stop ends a run of `cycles` cycles, of which the trace has the first ones
+-- the first cycle where a stop ends a run of `cycles` cycles, if it is one of the trace's cycles
 abbrev pub FindsStop : (fed : Fed) {flow : Flow} (replay : IsToReplay fed flow) (cycles : ℕ) → Option ℕ → Type 0
 FindsStop fed replay cycles stop =
     IsFirst (ends_run (plan_stops replay.run.design replay.run.request) (plan_circuit replay.run.design replay.run.request replay.run.models) (shown_ports replay.run.design replay.run.request) replay.run.rows cycles) fed.trace.rows stop
