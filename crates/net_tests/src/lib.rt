@@ -1,5 +1,5 @@
-//! Tests of networks, from their cut to their end, and of the crates around them. They show what no contract says: each public call succeeds with
-//! ample memory, and circuits do what was worked out by hand. Circuits, partitions and traces are texts.
+//! Tests of networks, from their cut to their end, and of the crates around them: each public call succeeds with ample memory, and circuits do what was
+//! worked out by hand, which no contract says. Circuits, partitions and traces are texts.
 //!
 //! - `networks`, with `direct`, `pipes` and `sharing`: networks that begin at cycle 0;
 //! - `circuits`: simulators, parts and needs, units, clocks, trays, logs of a replay, and networks that begin at a later cycle;
