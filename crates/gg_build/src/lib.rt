@@ -18,9 +18,9 @@
 //! - A [`Node`] is a host of such machines, of any kind. It passes each call on to that host. [`Node::value`] returns
 //!   the value of a cycle that a tray keeps.
 //!
-//! Units that the plan puts onto one host share it: they have one piece, so it has one program, and a thread for each of
-//! them, with the ratios of its own clocks. Each other machine has a host of its own. Except for the programs of units
-//! (gg_program), time and memory are linear in the plan, its pieces and the trace, and for bridges in what is handed in.
+//! Units that the plan puts onto one host share it: they have one piece, so it has one program, and a thread for each of them, with the ratios of its
+//! own clocks. Each other machine has a host of its own. Except for the programs of units (gg_program), time and memory are linear in the plan, its
+//! pieces, the trace and the bridges.
 //!
 //! `plan` has laws of the network of a plan: it is wired, has no ring, and is solved by a run of the circuit that it
 //! computes.

@@ -38,9 +38,9 @@ pub record Starts (seat : SeatState) (values : List ℕ) (places counted saw : �
   pub seen : seat.seen ≡ saw
   pub looks : seat.looks ≡ 0
 
--- ---- what a call does to its seat
+-- ---- the effect of a call on its seat
 
--- The seat stays at its stream, and what it has seen doesn't fall.
+-- The seat stays at its stream, and has seen no less than before.
 pub record SeatWentOn (old new : SeatState) : Type 0 where
   pub stream : new.stream ≡ old.stream
   pub capacity : new.capacity ≡ old.capacity
@@ -71,7 +71,7 @@ pub record FoundEmpty (old new : SeatState) : Type 0 where
   pub looked : Rose old.looks new.looks
   pub empty : new.seen ≡ new.count
 
--- ---- what is left in a link
+-- ---- the values left in a link
 
 -- The values that were put and not taken.
 abbrev pub between : SeatState → SeatState → List ℕ

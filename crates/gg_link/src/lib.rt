@@ -29,7 +29,7 @@ pub struct Full {
 
 /// Carries the values of one stream between two threads.
 pub trait Link: Send + Sync + Drop {
-    /// What a link needs to be made.
+    /// The resources that a link is made with.
     type Home: Copy + Send;
 
     /// The seat of the thread that puts.
@@ -44,10 +44,10 @@ pub trait Link: Send + Sync + Drop {
     // Whether the seat was made with this link.
     ghost takes_from: { Self → Self.TakeSeat → Type 0 };
 
-    // What a contract sees of the seat.
+    // The seat as contracts see it.
     ghost putting: { Self.PutSeat → SeatState };
 
-    // What a contract sees of the seat.
+    // The seat as contracts see it.
     ghost taking: { Self.TakeSeat → SeatState };
 
     /// Makes a link and its two seats for the list of channel `which`, starting at place `start`. The values of `held`

@@ -144,8 +144,7 @@ fn follow<H: Host, Z: Streams>(net: &mut Net<H, Z>, order: &Order, cycle: u64)
     }
 }
 
-/// Brings all machines to a cycle by an order that was noted before, which stays as it is. What the order leaves is done
-/// as `run_to` does it.
+/// Brings all machines to a cycle by an order that was noted before, which stays as it is. The steps that the order leaves are done as by `run_to`.
 pub fn run_noted<H: Host, Z: Streams>(net: &mut Net<H, Z>, order: &Order, cycle: u64)
     requires within { cycle ≤ net.old.end }
     requires none_above { (m : ℕ) → m < length net.old.machines → cycle_at net.old m ≤ cycle }

@@ -96,7 +96,7 @@ opening_queue (Some token) = token ∷ []
 abbrev pub serves : Network → ℕ → ℕ
 serves net m = length (machine_at net.machines m).ports * (machine_at net.machines m).cycle + (machine_at net.machines m).served
 
--- ---- what no step changes
+-- ---- the parts that never change
 
 -- The parts of a machine that never change: what it does, the number of cycles that it can do, the ratios of its
 -- clocks, the needs of its outs, the number of its ports, its served ports, and the numbers of ins and outs.

@@ -21,7 +21,7 @@
 //!
 //! The flow of values is part of the type of a network ([`Streams`]). No code reads it.
 //!
-//! `markings` has what steps do without values: markings, counts, and a measure that each step lowers.
+//! `markings` has the steps without values: markings, counts, and a measure that each step lowers.
 #![tactic(auto)]
 
 mod below;

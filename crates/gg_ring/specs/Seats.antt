@@ -1,15 +1,15 @@
--- What a contract sees of the seats of a ring.
+-- The seats of a ring, as contracts see them.
 use Rattle.std.specs.Prelude.{◌≡◌, ℕ}
 use Rattle.gg_link.specs.Seats.{SeatState, seat_state}
 use Rattle.gg_ring.specs.declared.ring.PutSeat.{PutSeat}
 use Rattle.gg_ring.specs.declared.ring.TakeSeat.{TakeSeat}
 use Rattle.gg_ring.specs.declared.ring.Ring.{Ring}
 
--- what is seen of a seat that puts: the stream and the capacity of its ring, and its counts
+-- a seat that puts, as contracts see it: the stream and the capacity of its ring, and its counts
 abbrev pub put_state : PutSeat → SeatState
 put_state s = seat_state s.seat.me.0.stream s.seat.me.0.capacity s.puts s.seen s.seat.me.0.looks
 
--- what is seen of a seat that takes: the stream and the capacity of its ring, and its counts
+-- a seat that takes, as contracts see it: the stream and the capacity of its ring, and its counts
 abbrev pub take_state : TakeSeat → SeatState
 take_state s = seat_state s.seat.me.0.stream s.seat.me.0.capacity s.takes s.seen s.seat.me.0.looks
 

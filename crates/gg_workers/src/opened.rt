@@ -25,7 +25,7 @@ use std::alloc::{AllocError, Global};
 // All memory that an opening takes, except the links' own. `X` are the links.
 #[derive(Drop)]
 struct Reserve<H, X, S, T> {
-    // What hosts and workers need.
+    // The memory for hosts and workers.
     setup: Setup<H, S, T>,
     // The lists for the way back.
     return_lists: ReturnLists<H, S, T>,

@@ -1,4 +1,4 @@
-//! What workers need: first all memory is taken, then the hosts get the seats of their machines.
+//! The memory for workers. It is taken first, and then the hosts get the seats of their machines.
 ghost use Rattle.std.specs.Prelude.{◌≡◌, ℕ, ◌^◌, ◌<◌, ◌≤◌, [], length, map, IfOk};
 ghost use Rattle.std.specs.Vec.{vec_capacity};
 ghost use Rattle.gg_net.specs.Network.{frame_of};

@@ -1,4 +1,4 @@
-//! `LinkedHost` and `Worker`: what one host and one thread of the system have.
+//! `LinkedHost` and `Worker`: the parts of one host and of one thread of the system.
 use gg_workers_pass::MachineSeats;
 
 // A host with the seats of its machines, by thread. `S` are the seats that take, and `T` the seats that put.

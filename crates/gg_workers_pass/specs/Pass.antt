@@ -5,7 +5,7 @@ use Rattle.std.specs.Prelude.{ℕ, ◌≤◌, max}
 
 -- ---- the counts of one machine
 
--- A count doesn't fall, and isn't above both the bound and what it was.
+-- A count doesn't fall, and isn't above both the bound and its old value.
 pub record RisesTo (bound old new : ℕ) : Type 0 where
   pub up : old ≤ new
   pub within : new ≤ max bound old

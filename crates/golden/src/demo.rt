@@ -120,7 +120,7 @@ fn demo_inputs(
     Ok(trace)
 }
 
-// What the three texts of a demo mean. An error says nothing, as above.
+// The meaning of the three texts of a demo. An error says nothing, as above.
 fn demo_fed(alloc: Global, seed: u32, size: u32) -> Result<Fed, Ending>
     requires some { 0 < size }
     requires most { size ≤ 64 }

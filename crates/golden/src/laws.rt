@@ -39,7 +39,7 @@ pub fn refusals_are_exact()
 
 /// `resume` goes on where `save` stopped, under any partition with the same pipes and the same ratios of clocks and without bridges, whatever its
 /// units, its memories, its direct channels and its capacities. A run that starts from the state of another run before a cycle prints the rest of
-/// what the other prints. The text that `save` writes is accepted as a snapshot, and what `resume` writes is the rest of what `run` writes.
+/// what the other prints. The text that `save` writes is accepted as a snapshot, and `resume` writes the rest of the text that `run` writes.
 pub fn resumed_runs_go_on()
     ensures runs { RunsGoOn }
     ensures accepted { (models : Models) → SavedIsAccepted models }

@@ -1,4 +1,4 @@
--- What the code has once the first files of a command are read.
+-- The values that the code has after the first files of a command are read.
 -- Source: this program's own.
 use Rattle.std.specs.Prelude.{ℕ, ◌≤◌, List}
 use Rattle.gg_bits.specs.Limits.{cycle_limit}

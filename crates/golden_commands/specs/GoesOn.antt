@@ -17,8 +17,8 @@ use Rattle.golden_commands.specs.Run.{IsTextOf}
 use Rattle.golden_commands.specs.RunText.{IsRunBy, run_text}
 use Rattle.golden_commands.specs.Saved.{IsSavedText, save_limit, state_before}
 
--- A run from the state of another run before a cycle prints the rest of what the other prints. `other` is the request that the state is
--- saved under, and `one` the request of the run that goes on from it.
+-- A run from the state of another run before a cycle prints the rest of the other's text. `other` is the request that the state is saved under, and
+-- `one` the request of the run that goes on from it.
 abbrev pub RunsGoOn : Type 0
 RunsGoOn =
     (design : Ordered) (one other : Request) (models : Models) (columns : List (List ℕ)) (n at : ℕ) (rows rest : List (List ℕ))
@@ -48,7 +48,7 @@ SavedIsAccepted models =
     -- The run can go on from the snapshot.
     → CanBeResumed (to_save models) circuit partition trace snap
 
--- What `resume` writes is the rest of what `run` writes.
+-- `resume` writes the rest of the text that `run` writes.
 abbrev pub ResumedIsTheRest : Models → Type 0
 ResumedIsTheRest models =
     (circuit partition cut trace snap text whole : List ℕ) (one other : Request) (at : ℕ)

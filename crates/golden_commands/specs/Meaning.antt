@@ -1,4 +1,4 @@
--- What a circuit, a partition and a trace mean.
+-- The meaning of a circuit, a partition and a trace.
 -- Source: this program's own, by the crates that read these files (gg_front, gg_partfile, gg_trace) and check a request (gg_cut_plan).
 use Rattle.std.specs.Prelude.{ℕ, List}
 use Rattle.gg_cut_plan.specs.Held.{AreHeldOnce}

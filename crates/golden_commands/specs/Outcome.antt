@@ -19,8 +19,7 @@ pub data Outcome (models : Models) (words : List (List ℕ)) (loads : Loads) (un
   -- an allocation failed while the words were read, and nothing is written
   WantsMemoryFirst : (says : Says status line out_of_memory) (none : text ≡ []) → Outcome models words loads unwritten status text line
 
--- A call with these words returned this status. It has an outcome. The outcome's text was written on `out` after what
--- was written before, and its line is reported on `err`.
+-- A call with these words returned this status. It has an outcome. The outcome's text was added on `out`, and its line is reported on `err`.
 pub record Answered (models : Models) (words : List (List ℕ)) (loads : Loads) (out err : Puts) (status : ℕ) : Type 0 where
   pub text : List ℕ
   pub line : List ℕ

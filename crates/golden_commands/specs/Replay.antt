@@ -1,4 +1,4 @@
--- What a circuit, a partition and a trace mean, the file of steps, and the text that `replay` writes.
+-- The meaning of a circuit, a partition and a trace, the file of steps, and the text that `replay` writes.
 -- Sources: MEMOCODE 2009 (the k-th token of each channel is the value of its signal in cycle k, in any order of steps).
 -- The lines and the forms of a steps file are this program's own.
 use Rattle.std.specs.Prelude.{◌≡◌, ◌↔◌, ℕ, ◌+◌, ◌-◌, ◌*◌, ◌<◌, List, [], None, Option, Result, Ok, Err, flat_map, if◌then◌else◌, length, map, slice_index_or, take}
@@ -37,9 +37,9 @@ use Rattle.golden_commands.specs.Meaning.{IsMeaning, Meaning}
 use Rattle.golden_commands.specs.Partition.{Known}
 use Rattle.golden_commands.specs.RunText.{IsRunBy}
 
--- ---- what a circuit, a partition and a trace mean
+-- ---- the meaning of a circuit, a partition and a trace
 
--- What the files mean, the run on the columns of the reference circuit with the models of the bridges, and the layout of the request's cut.
+-- The meaning of the files, the run on the columns of the reference circuit with the models of the bridges, and the layout of the request's cut.
 pub record Setting : Type 0 where
   pub meant : Meaning
   pub rows : List (List ℕ)

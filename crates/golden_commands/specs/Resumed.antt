@@ -55,8 +55,8 @@ snap_file_for known circuit partition trace name =
 abbrev pub start_at : Meaning → (cycle : ℕ) → State → Start
 start_at meant cycle state = record { cycle = cycle; state = state; ratios = ratios_of meant.design.tree meant.request }
 
--- What the files of a circuit, a partition, a trace and a snapshot mean: the snapshot has this cycle and this state and no other, and these are the
--- rows of the run from there, by cycle. For `resume` a partition has no bridge, and so it is a run of the reference circuit.
+-- The meaning of the files of a circuit, a partition, a trace and a snapshot: the snapshot has this cycle and this state and no other, and these are
+-- the rows of the run from there, by cycle. For `resume` a partition has no bridge, and so it is a run of the reference circuit.
 pub record HasRest (known : Known) (circuit partition trace snap : List ℕ) (meant : Meaning) (cycle : ℕ) (state : State) (rows : List (List ℕ)) : Type 0 where
   pub are : AreMeant known circuit partition trace meant
   pub reads : IsSnap (meant_reference meant) meant.design.tree snap cycle state
@@ -79,7 +79,7 @@ abbrev pub IsResumedText : Known → (circuit partition trace snap text : List �
 IsResumedText known circuit partition trace snap text =
     (meant : Meaning) × (cycle : ℕ) × (state : State) × (rows : List (List ℕ)) × HasRest known circuit partition trace snap meant cycle state rows × (text ≡ rest_text meant cycle rows)
 
--- ---- what `resume` writes after `save`
+-- ---- `resume` after `save`
 
 -- two requests have the same pipes, in any order
 abbrev pub HaveSamePipes : Request → Request → Type 0

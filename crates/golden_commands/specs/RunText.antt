@@ -1,4 +1,4 @@
--- The text of the run of a design on a trace, with the pipes, the clocks and the bridges of a request: what `run` writes.
+-- The text that `run` writes: the text of the run of a design on a trace, with the pipes, the clocks and the bridges of a request.
 -- Source: ICCAD 2019 (Golden Gate) for target cycles as rows, and for bridges; FIRRTL Specification for what a cycle is (crate gg_flat). MEMOCODE
 -- 2009 (a buffer with a token in it at the start) for pipes. gg_cut_reference defines the reference circuit with pipes, and the circuit with the
 -- models of bridges. Ratios of clocks are this program's own (gg_flat's `edge`).

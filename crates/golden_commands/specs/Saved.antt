@@ -22,7 +22,7 @@ abbrev pub save_limit : Meaning → (rows : List (List ℕ)) → ℕ
 save_limit meant rows =
     if run_rows meant.design meant.request rows meant.cycles == meant.cycles then meant.cycles else run_rows meant.design meant.request rows meant.cycles - 1
 
--- What the three files mean, with the run on the trace. For `save` a partition has no bridge, and so it is a run of the reference circuit.
+-- The meaning of the three files, with the run on the trace. For `save` a partition has no bridge, and so it is a run of the reference circuit.
 pub record HasRun (known : Known) (circuit partition trace : List ℕ) (meant : Meaning) (rows : List (List ℕ)) : Type 0 where
   pub are : AreMeant known circuit partition trace meant
   pub run : IsRunBy meant.design meant.request known.models meant.columns meant.cycles rows

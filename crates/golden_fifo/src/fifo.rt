@@ -1,4 +1,4 @@
-//! `Fifo`: a bridge that hands on what it sees, in order.
+//! `Fifo`: a bridge that hands on the values that it sees, in order.
 ghost use Rattle.std.specs.Prelude.{◌≡◌, ◌≤◌, IfOk};
 ghost use Rattle.gg_bits.specs.declared.types.Kind.TheVariants.{UInt};
 ghost use Rattle.golden_fifo.specs.inside.Fifo.{empty_place, next_place};

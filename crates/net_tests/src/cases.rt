@@ -1,4 +1,4 @@
-//! Cases: a circuit, partitions of it, and what is expected, as texts. A case is a paragraph.
+//! Cases: a circuit, partitions of it, and expected results, as texts. A case is a paragraph.
 //!
 //! ```text
 //! # A line that begins so says what the case is about.

@@ -53,7 +53,7 @@ static KEYS: [&str; 11] = [
     "each",
 ];
 
-// What is expected of a network.
+// The expected results of a network.
 #[derive(Clone, Copy)]
 pub(crate) struct Case<'a> {
     // the whole case

@@ -1,4 +1,4 @@
-//! gg_trace: texts with their columns, or with their first fault, and what is printed, all worked by hand.
+//! gg_trace: texts with their columns, or with their first fault, and printed rows, all worked by hand.
 use crate::ports::Inputs::{self, Reset, XAndY};
 use crate::ports::ports_of;
 use gg_trace::TraceFault::{
@@ -146,7 +146,7 @@ fn texts(rt: HostRuntime) {
     }
 }
 
-// How many rows are kept of a trace of three, and what is left.
+// How many rows are kept of a trace of three, and the rest.
 static FIRST: [(u64, Column); 3] = [
     (2, (0, &[10, 11], &[11, 2])),
     (2, (1, &[1, 2], &[11, 2])),

@@ -30,7 +30,7 @@ use Rattle.gg_build.specs.inside.Bridges.{Table, AreApart, HasOwn, bridge_named}
 use Rattle.gg_build.specs.inside.Groups.{FirstsAscend, group_at}
 use Rattle.gg_build.specs.inside.Node.{machines_of}
 
--- ---- what machines of a plan must have to be built
+-- ---- machines of a plan that can be built
 
 -- The part of a unit is well formed, and its signals are in an order of evaluation. Numbers of 32 bits suffice for its outs.
 pub record IsUnitPart (part : Part) : Type 0 where

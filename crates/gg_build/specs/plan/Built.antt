@@ -141,7 +141,7 @@ pub record AreBuilt (plan : Plan) (starts : Body → Start) (columns : List (Lis
 abbrev pub plan_frame : (token : ℕ → ℕ) → Plan → List Machine → ℕ → Frame
 plan_frame token plan machines n = frame_of (opening_net machines (wires_of_plan token plan) n)
 
--- ---- what the network has to do
+-- ---- the run of the network
 
 -- The rows of a machine, from the rows of the circuit that the network computes. For a signal of the design, `seen` is the signal that the machine
 -- sees. `behind` is the number of the first signal of a bridge's model.

@@ -1,4 +1,4 @@
--- What a loop over the channels or the machines of a network has done so far.
+-- The progress of a loop over the channels or the machines of a network.
 -- Source: this program's own.
 use Rattle.std.specs.Prelude.{◌≡◌, ℕ, ◌<◌, List, Bool, true, false}
 use Rattle.gg_net.specs.declared.event.Event.{Event}

@@ -60,7 +60,7 @@ pub record IsWithinLimits (frame : Frame) : Type 0 where
   pub ports : sum (map (λ kind. length kind.ports) frame.kinds) < 2 ^ 32
   pub capacities : (c : ℕ) → c < length frame.wires → (wire_at frame.wires c).capacity ≤ capacity_limit
 
--- What holds of the parts of a network at all times.
+-- The invariant of the parts of a network.
 pub record IsNet (flow : Flow) (hosts : List (List Machine)) (stations : List Station) (wires : List Wire) (queues : List Held) (end : ℕ) : Type 0 where
   -- each machine is at a thread of a host, and each thread has one
   pub stationed : AreStationed hosts stations

@@ -12,7 +12,7 @@ use Rattle.gg_net.specs.declared.event.StepRefusal.{StepRefusal}
 use Rattle.gg_net.specs.Refusal.{Turn, Facts}
 use Rattle.gg_net.specs.Refusal as table
 
--- ---- what never changes
+-- ---- the layout
 
 -- A channel: the machines at its ends, the most tokens that its queue may hold, the channels that it needs in a cycle,
 -- and whether it opens with a token.
@@ -39,7 +39,7 @@ link_at layout c = slice_index_or layout.links c (record { producer = 0; consume
 abbrev pub turns_at : Layout → ℕ → List Turn
 turns_at layout m = slice_index_or layout.turns m []
 
--- ---- what changes
+-- ---- the marking
 
 -- The cycle of each machine, and the number of its ports that were served in it. For each channel, whether its consumer
 -- has taken the token of the consumer's cycle, and whether its producer has given the token of the producer's cycle.
@@ -111,7 +111,7 @@ marked_facts layout marking =
 abbrev pub marked_refusal : Layout → Marking → Event → Option StepRefusal
 marked_refusal layout marking event = table.refusal (marked_facts layout marking) event
 
--- ---- what a step does
+-- ---- the effect of a step
 
 -- the marks of channels, cleared for channels with machine m at this end
 abbrev pub cleared : (Link → ℕ) → Layout → ℕ → List Bool → List Bool

@@ -56,7 +56,7 @@ pub fn steps_keep()
     ensures more { (old next new : Network) (events : List (Option Event)) (event : Option Event) → Steps old events next → IsStep next event new → Steps old (events ++ event ∷ []) new }
 {}
 
-/// What steps do to the marking determines where they lead, which step is refused, and why.
+/// The effect of steps on the marking determines where they lead, which step is refused, and why.
 pub fn steps_by_marking()
     ensures done { StepsAreReplayed }
     ensures stopped { StopsAreReplayed }

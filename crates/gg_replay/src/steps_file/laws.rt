@@ -1,4 +1,5 @@
-//! Laws: what the lines of a steps file spell. Each is the contract of a function with an empty body.
+//! Laws: the lines of a steps file and the steps that they spell. Each is the contract of a function with an empty
+//! body.
 
 ghost use Rattle.std.specs.Prelude.{◌≡◌, ℕ, List, Some};
 ghost use Rattle.gg_net.specs.declared.event.Event.{Event};

@@ -1,4 +1,4 @@
--- The rule of a ring: what its words hold and what its seats know, at every moment.
+-- The rule of a ring: its words and the knowledge of its seats, at every moment.
 -- Source: MEMOCODE 2009 (a queue holds the tokens that were put and not yet taken, in order, at most its bound); the
 -- usual ring between one producer and one consumer (Lamport 1983, "Specifying Concurrent Program Modules").
 use Rattle.std.specs.Prelude.{◌≡◌, ℕ, ◌+◌, ◌*◌, ◌/◌, ◌%◌, ◌<◌, ◌≤◌, Bool, true, false, List, length, slice_index}

@@ -1,4 +1,4 @@
--- Which machines of a plan are trays, by what they do.
+-- The machines of a plan that are trays, by their bodies.
 -- Source: ICCAD 2019 (sinks at the outputs of a target).
 use Rattle.std.specs.Prelude.{Bool, true, false}
 use Rattle.gg_cut_plan.specs.declared.plan.Body.{Body}

@@ -1,4 +1,4 @@
--- The rule of a queue: it holds the stream from how many were taken to how many were put, and what its passes know.
+-- The rule of a queue: it has the stream's values that were put and not taken, and its passes know their counts.
 -- Source: MEMOCODE 2009 (a queue holds the tokens that were put and not yet taken, in order, at most its bound).
 use Rattle.std.specs.Prelude.{◌≡◌, ℕ, ◌+◌, ◌≤◌, true, false, List, [], ◌++◌, length}
 use mathlib.Core.Option.{some}
@@ -52,8 +52,8 @@ pub record FitsTake (stream : List ℕ) (room head tail : ℕ) (v : View) : Type
 abbrev pub Fits : List ℕ → ℕ → ℕ → ℕ → ℕ → ℕ → ℕ → View → Type 0
 Fits stream room head tail p t id v = (v.puts ≡ true → (id ≡ p) × FitsPut stream room tail v) × (v.takes ≡ true → (id ≡ t) × FitsTake stream room head tail v)
 
--- What is true of a queue at every moment, by its items and the views of its passes: the items are the values of the stream that were put
--- and not taken, in order, and no more than it has room for; and each view agrees with them.
+-- The invariant of a queue, by its items and the views of its passes. The items are the values of the stream that were put and not taken, in order,
+-- and no more than it has room for. Each view agrees with them.
 pub record Keeps (items : List ℕ) (views : List View) : Type 0 where
   -- the seat that puts, and the seat that takes
   pub putter : ℕ

@@ -1,4 +1,4 @@
--- What a table needs so that its lines can be read again.
+-- Tables with lines that can be read again.
 -- Source: this program's own.
 use Rattle.std.specs.Prelude.{◌≡◌, ◌≢◌, ◌⊎◌, ℕ, ◌<◌, ◌≤◌, ◌^◌, List, [], ◌∷◌, length, map, All, AllPairs, Contains, ⊤}
 use Rattle.gg_bits.specs.Shape.{shape}
@@ -56,7 +56,7 @@ IsElsewhere (Words m) (Register q) = ⊤
 IsElsewhere (Words m) (Read n q) = ⊤
 IsElsewhere (Words m) (Words n) = m ≢ n
 
--- Two rows differ: in kind or in path, and in what they have.
+-- Two rows differ: in kind or in path, and in their values' places.
 pub record Differ (one other : Row) : Type 0 where
   pub named : (one.kind ≢ other.kind) ⊎ (one.path ≢ other.path)
   pub apart : IsElsewhere one.at other.at

@@ -30,7 +30,7 @@ pub enum At {
 
 // A row of a table: a register, a read register, a pipe or a memory, and where its values are.
 pub struct Row {
-    // What it is.
+    // Its kind.
     pub kind: Kind,
     // Its path: the path of the signal that holds the register, of the reader's data, of the pipe's channel, or of the memory.
     pub path: Name,

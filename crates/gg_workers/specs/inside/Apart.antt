@@ -78,7 +78,7 @@ pub record WasJoined (flow : Flow) (net : Network) (shape : Shape) (threads : Li
   pub is : net ≡ joined hosts shape queues
   pub sizes : threads ≡ map (λ (l : List Machine). length l) hosts
 
--- Each channel of the network was given a link, with seats that count what the network's machines count.
+-- Each channel of the network was given a link, with seats that have the counts of the network's machines.
 pub record WereLinked {X S T : Type 0} (takes_from : X → S → Type 0) (puts_into : X → T → Type 0) (taking : S → SeatState) (putting : T → SeatState) (flow : Flow) (net : Network) (links : List X) (queues : List Held) : Type 0 where
   pub put_seats : List T
   pub take_seats : List S

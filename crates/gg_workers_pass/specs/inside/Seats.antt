@@ -18,11 +18,11 @@ pub record SeatCounts (flow : Flow) (net : Network) (c n : ℕ) (seat : SeatStat
 
 -- The seats of the machines in this list.
 module _ {X S T : Type 0} (takes_from : X → S → Type 0) (puts_into : X → T → Type 0) (taking : S → SeatState) (putting : T → SeatState) (flow : Flow) (net : Network) (links : List X) (machines : List Machine) where
-  -- a seat of the link of a channel, which counts what the channel's consumer counts
+  -- a seat of the link of a channel, with the count of the channel's consumer
   abbrev pub TakeSeatOf : ℕ → S → Type 0
   TakeSeatOf c seat = ((link : X) → slice_get links c ≡ Some link → takes_from link seat) × SeatCounts flow net c (takes_by (frame_of net) (machine_at machines (wire_at net.wires c).consumer) c) (taking seat)
 
-  -- a seat of the link of a channel, which counts what the channel's producer counts
+  -- a seat of the link of a channel, with the count of the channel's producer
   abbrev pub PutSeatOf : ℕ → T → Type 0
   PutSeatOf c seat = ((link : X) → slice_get links c ≡ Some link → puts_into link seat) × SeatCounts flow net c (enters_by (frame_of net) (machine_at machines (wire_at net.wires c).producer) c) (putting seat)
 
@@ -40,7 +40,7 @@ pub record MayStand (flow : Flow) (net : Network) (machines : List Machine) : Ty
   pub each : (m : ℕ) → m < length net.machines → MachineAt flow (frame_of net) m (machine_at machines m)
 
 module _ {X S T : Type 0} (takes_from : X → S → Type 0) (puts_into : X → T → Type 0) (taking : S → SeatState) (putting : T → SeatState) (flow : Flow) (net : Network) (machines : List Machine) where
-  -- A link of channel c has these seats, which count what these machines count.
+  -- A link of channel c has these seats, with the counts of these machines.
   pub record LinkSeats (c : ℕ) (link : X) (put : T) (take : S) : Type 0 where
     pub into : puts_into link put
     pub from : takes_from link take

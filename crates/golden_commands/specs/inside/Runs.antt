@@ -26,7 +26,7 @@ use Rattle.golden_commands.specs.Resumed.{start_at}
 use Rattle.golden_commands.specs.RunText.{shown_ports}
 use Rattle.golden_commands.specs.declared.case.Fed.{Fed}
 
--- ---- what was read
+-- ---- the files
 
 -- the design, the request and the columns that were read
 abbrev pub meant_by : Fed → Meaning

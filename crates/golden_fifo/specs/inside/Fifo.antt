@@ -87,7 +87,7 @@ fifo_state first second third fourth =
 abbrev pub next_place : Place → Place → ℕ → Place
 next_place place behind stop = if place.full == 1 then record { full = stop; value = place.value } else behind
 
--- what a contract sees of a FIFO: its types and its places
+-- a FIFO as contracts see it: its types and its places
 pub record Kept : Type 0 where
   pub bit : Ty
   pub ty : Ty
