@@ -103,7 +103,8 @@ impl<H: Host, Z: Streams> Net<H, Z> {
     ///
     /// # Examples
     ///
-    /// Before the first of its cycles, channel 0 leads from machine 0, a source, to a tray, and its queue is empty.
+    /// The network is before its first cycle. Channel 0 leads from machine 0, a source, to machine 1, a tray, and its queue
+    /// is empty.
     ///
     /// ```text
     /// net.step(Event::Latch { channel: 0 })   // Err(NoToken { channel: 0 }): the queue is empty

@@ -29,7 +29,7 @@ pub(crate) struct View {
     pub(crate) moves: u64,
 }
 
-// The rule of a ring.
+// The rule of a ring, `Holds`.
 pub(crate) struct RingRule;
 
 impl TableRule<(), View, u64> for RingRule {

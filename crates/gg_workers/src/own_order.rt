@@ -16,7 +16,6 @@ pub(crate) struct OwnEvent {
     pub(crate) thread: u32,
     // The place of the in or the out; 0 if it is neither a latch nor a fire.
     pub(crate) place: u32,
-    // The event.
     pub(crate) event: Event,
 }
 

@@ -33,7 +33,6 @@ pub(crate) struct Setup<H, S, T> {
     pub(crate) puts: Vec<Option<T>>,
     // The hosts with the seats of their machines.
     pub(crate) linked_hosts: Vec<LinkedHost<H, S, T>>,
-    // The workers.
     pub(crate) workers: Vec<Worker<H, S, T>>,
 }
 

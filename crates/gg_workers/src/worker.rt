@@ -6,7 +6,6 @@ use gg_workers_pass::MachineSeats;
 pub(crate) struct LinkedHost<H, S, T> {
     // The number of the host.
     pub(crate) number: usize,
-    // The host.
     pub(crate) host: H,
     // The seats of the machine at each thread.
     pub(crate) by_thread: Vec<MachineSeats<S, T>>,

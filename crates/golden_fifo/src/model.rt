@@ -12,7 +12,6 @@ use std::alloc::{AllocError, Global};
 pub(crate) struct Place {
     // 1 if there is a value in it, otherwise 0.
     pub(crate) full: u128,
-    // The value.
     pub(crate) value: u128,
 }
 
@@ -123,7 +122,6 @@ fn add_place_registers(
     add_register(alloc, piece, bit, full, ty, value, behind)
 }
 
-// Adds the registers.
 fn add_registers(alloc: Global, piece: &mut Piece, bit: Ty, ty: Ty) -> Result<(), AllocError>
     requires { piece.old.registers ≡ [] }
     ensures { OnOk result (piece.new ≡ record piece.old { registers = fifo_registers bit ty }) }

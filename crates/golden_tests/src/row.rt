@@ -20,7 +20,6 @@ pub(crate) struct Row<'a> {
     pub(crate) words: &'a str,
     // Whether it is made in each way.
     is_each_way: bool,
-    // Its files.
     pub(crate) files: Lent<'a>,
     // The loads and the puts that fail.
     loads: Vec<u64>,

@@ -17,9 +17,7 @@ use std::alloc::{AllocError, Global};
 // How a network is run to its end.
 #[derive(Clone, Copy)]
 enum Way {
-    // At once.
     AtOnce,
-    // Cycle by cycle.
     ByCycles,
     // By an order that is noted in the first cycle.
     ByOrder,

@@ -7,7 +7,6 @@ use std::io::{self, Read, Seek, SeekFrom, Write};
 // room it fails, or reads and writes nothing. As a file system it has itself under every name.
 #[derive(Clone, Copy)]
 pub(crate) struct Few {
-    // The bytes.
     pub(crate) bytes: [u8; 12],
     // The place of the next one.
     pub(crate) next: usize,

@@ -44,7 +44,6 @@ IsLineOfNone line (place ∷ rest) = IsNoLine line place × IsLineOfNone line re
 
 -- A line was taken: it is the line of a value of a place. All places before it are skipped, because it can't be theirs.
 pub record IsTaken (before after : List Place) (line : List ℕ) (old new : State) : Type 0 where
-  -- the skipped places
   pub skipped : List Place
   pub place : Place
   pub value : ℕ

@@ -21,7 +21,6 @@ use std::alloc::{AllocError, Global};
 pub(crate) struct Cursor {
     // The row, by its place.
     pub(crate) row: usize,
-    // The address.
     pub(crate) address: u32,
 }
 

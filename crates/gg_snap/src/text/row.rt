@@ -7,7 +7,6 @@ use gg_bits::Name;
 // A kind of row.
 #[derive(Clone, Copy)]
 pub enum Kind {
-    // A register.
     Register,
     // A read register of a memory.
     Read,
@@ -30,7 +29,6 @@ pub enum At {
 
 // A row of a table: a register, a read register, a pipe or a memory, and where its values are.
 pub struct Row {
-    // Its kind.
     pub kind: Kind,
     // Its path: the path of the signal that holds the register, of the reader's data, of the pipe's channel, or of the memory.
     pub path: Name,
