@@ -11,8 +11,8 @@ use Rattle.gg_net.specs.Network.{Network}
 -- ---- the values that host steps bring to trays
 
 -- From this network host steps bring these values of a cycle to the machines that begin with number `first`, in order. Some steps, one after another,
--- lead to a network with the cycle done by each machine and these values of it kept by these machines. And whatever steps are done, these machines
--- never keep another value of the cycle.
+-- lead to a network where each machine has done the cycle, and these machines have kept these values of it. And whatever steps are done, these
+-- machines never keep another value of the cycle.
 pub record TraysKeep (opening : Network) (first cycle : ℕ) (values : List ℕ) : Type 0 where
   pub events : List (Option Event)
   pub net : Network

@@ -30,8 +30,8 @@ pub record IsMeaning (known : Known) (circuit partition trace : List ℕ) (meant
   pub cuts : Cuts known meant.design partition meant.request
   pub feeds : Feeds meant.design.circuit meant.request trace meant.cycles meant.columns
 
--- `IsMeaning` for `save` and `resume`. The design is one, it keeps to its tree, and exactly one signal holds each register. (This is so for each
--- design that `golden` reads.)
+-- `IsMeaning` for `save` and `resume`. The design keeps to its tree, and exactly one signal holds each register. (This is so for each design that
+-- `golden` reads.)
 pub record AreMeant (known : Known) (circuit partition trace : List ℕ) (meant : Meaning) : Type 0 where
   pub is : IsMeaning known circuit partition trace meant
   pub designed : IsDesign meant.design

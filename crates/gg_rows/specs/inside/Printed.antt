@@ -29,7 +29,7 @@ stop_columns circuit ports rows = map (column rows) (drop (length ports) circuit
 abbrev pub is_halt : List Ratio → FlatCircuit → List Port → (rows : List (List ℕ)) → (t : ℕ) → Bool
 is_halt stops circuit ports rows t = halts stops (stop_columns circuit ports rows) t
 
--- how many of the first n cycles of a run have a row: the last one is the first where a stop acts
+-- how many of the first n cycles of a run have a row: up to the first where a stop acts, or all
 abbrev pub rows_to : List Ratio → FlatCircuit → List Port → (rows : List (List ℕ)) → (n : ℕ) → ℕ
 rows_to stops circuit ports rows n = row_count (is_halt stops circuit ports rows) n
 
@@ -41,7 +41,7 @@ text_to circuit ports rows n = trace_text ports (shown_columns circuit ports row
 abbrev pub text_of : List Ratio → FlatCircuit → List Port → (rows : List (List ℕ)) → (n : ℕ) → List ℕ
 text_of stops circuit ports rows n = text_to circuit ports rows (rows_to stops circuit ports rows n)
 
--- how many of n cycles of a run, starting at cycle `begin`, have a row: the last one is the first where a stop acts
+-- how many of n cycles of a run, starting at cycle `begin`, have a row: up to the first where a stop acts, or all
 abbrev pub rows_since : List Ratio → FlatCircuit → List Port → (rows : List (List ℕ)) → (begin n : ℕ) → ℕ
 rows_since stops circuit ports rows begin n = row_count (λ k. is_halt stops circuit ports rows (begin + k)) n
 
