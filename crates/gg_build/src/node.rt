@@ -16,7 +16,7 @@ use gg_node::{Host, Source, Tray};
 /// A host of machines of a plan, by their kind.
 #[derive(Drop)]
 pub enum Node<'a, B: Bridge + Drop> {
-    /// The hub, or a unit that is alone.
+    /// The hub, or a single unit.
     Unit(Unit<'a>),
     /// Units with one piece, a thread each.
     Shared(Shared<'a>),

@@ -120,7 +120,7 @@ fn demo_inputs(
     Ok(trace)
 }
 
-// What the three texts of a demo mean. An error says nothing, as above.
+// The meaning of the three texts of a demo. An error says nothing, as above.
 fn demo_fed(alloc: Global, seed: u32, size: u32) -> Result<Fed, Ending>
     requires some { 0 < size }
     requires most { size ≤ 64 }
@@ -144,7 +144,7 @@ fn is_whole(fed: &Fed, size: u32) -> bool
     piece.outs().len() >= 2 && fed.trace.rows() == 4 * u64::from(size)
 }
 
-// Runs the network of the plan, whose channels carry the values of a flow, and folds its rows.
+// Runs the network of the plan, and folds its rows. Its channels carry the values of a flow.
 fn sum_fed<R: Threads + Sync, Z: Streams, G: Gate + Sync>(
     rt: &R,
     alloc: Global,

@@ -21,7 +21,7 @@ use gg_order::Design;
 use gg_partfile::BridgeEntry;
 use std::alloc::{AllocError, Global};
 
-// The reference circuit of a case, with an order and the design's tree.
+/// The reference circuit of a case, with an order and the design's tree.
 ///
 /// # Errors
 ///
@@ -44,7 +44,7 @@ fn place_of(models: &Models, name: &Name) -> Option<usize>
     models.find(name)
 }
 
-// The design with the model at a place, which is that of an entry's bridge, at the entry's ports.
+// The design with the model at a place, at the ports of an entry. It is the model of the entry's bridge.
 fn joined_by(
     alloc: Global,
     models: &Models,

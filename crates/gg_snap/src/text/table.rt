@@ -1,4 +1,4 @@
-//! The table of a design: what a snapshot of it can have values of, in the order of the lines.
+//! The table of a design: the values of a snapshot of it, in the order of the lines.
 ghost use Rattle.std.specs.Prelude.{◌≡◌, ◌≢◌, ◌<◌, ◌++◌, ◌+◌, ◌^◌, ℕ, Some, None, IfOk, OnOk, MatchOption, All, AllPairs, length};
 ghost use Rattle.gg_flat_tree.specs.Tree.{path_at, memory_at};
 ghost use Rattle.gg_flat.specs.WellFormed.{IsWellFormed};
@@ -14,7 +14,7 @@ use gg_flat_tree::Tree;
 use gg_order::Design;
 use std::alloc::{AllocError, Global};
 
-// The name of a pipe's channel, if the path is that of a pipe.
+// The name of a pipe's channel, if this is the path of a pipe.
 fn channel_of(path: &Name) -> Option<&str>
     ensures { MatchOption result (channel_of path.now ≡ None) (λ channel. channel_of path.now ≡ Some channel.now) }
 {
