@@ -1,4 +1,4 @@
--- More on Names: what no promise of the program's speaks of.
+-- More on Names: what no promise of the program reaches.
 use Rattle.std.specs.Prelude.{IfSome}
 use Rattle.std.specs.List.{All}
 use Rattle.gg_ast.specs.declared.expression.Reference.{Reference}

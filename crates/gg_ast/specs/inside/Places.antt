@@ -1,4 +1,4 @@
--- More on Places: what no promise of the program's speaks of.
+-- More on Places: what no promise of the program reaches.
 use Rattle.std.specs.Prelude.{◌≡◌, ◌≢◌, ℕ, ◌<◌, List, Some, String, slice_get}
 use Rattle.std.specs.HashMap.{HashMap, get_by_text}
 use Rattle.std.specs.declared.alloc.Global.{Global}

@@ -1,4 +1,4 @@
--- More on Tree: what no promise of the program's speaks of.
+-- More on Tree: what no promise of the program reaches.
 use Rattle.std.specs.Prelude.{◌≡◌, ℕ, List, [], ◌∷◌, ◌++◌}
 use Rattle.gg_ast.specs.declared.module.Port.{Port}
 use Rattle.gg_ast.specs.declared.statement.Field.{Field}

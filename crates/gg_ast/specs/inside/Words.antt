@@ -1,4 +1,4 @@
--- More on Words: what no promise of the program's speaks of.
+-- More on Words: what no promise of the program reaches.
 use Rattle.std.specs.Prelude.{ℕ, List, [], ◌∷◌, Option, None, Some, codes, option_map, if◌then◌else◌}
 use Rattle.std.specs.Option.{option_or}
 use Rattle.std.specs.Str.{bytes_eq}

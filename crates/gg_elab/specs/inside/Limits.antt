@@ -1,4 +1,4 @@
--- More on Limits: what no promise of the program's speaks of.
+-- More on Limits: what no promise of the program reaches.
 -- Source: this program's own; the counts and the limits are gg_elab_sites's.
 use Rattle.std.specs.Prelude.{◌≡◌, Option, Some, None, Result, Ok, Err}
 use Rattle.gg_elab_sites.specs.declared.counts.Excess.{Excess}

@@ -1,4 +1,4 @@
--- More on Counts: what no promise of the program's speaks of.
+-- More on Counts: what no promise of the program reaches.
 -- Source: FIRRTL Specification, "Instances", "Memories" (depth). The limits are this program's. A count saturates at
 -- 2^64 - 1.
 use Rattle.std.specs.Prelude.{ℕ, suc, ◌-◌, ◌^◌, List, [], ◌∷◌, Option, None, length, nat_lt, is_some, if◌then◌else◌}

@@ -1,4 +1,4 @@
--- More on Named: what no promise of the program's speaks of.
+-- More on Named: what no promise of the program reaches.
 use Rattle.std.specs.Prelude.{◌≡◌, ℕ, Option, All}
 use Rattle.gg_flat.specs.declared.memory.Memory.{Memory}
 use Rattle.gg_flat.specs.declared.piece.Driver.{Driver}

@@ -1,4 +1,4 @@
--- More on Ports: what no promise of the program's speaks of.
+-- More on Ports: what no promise of the program reaches.
 -- Source: FIRRTL Specification, "Modules" (the ports of the top); a clock is not a signal of a flat circuit.
 use Rattle.std.specs.Prelude.{List}
 use Rattle.gg_flat.specs.Circuit.{FlatCircuit}

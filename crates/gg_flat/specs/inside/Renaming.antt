@@ -1,4 +1,4 @@
--- More on Renaming: what no promise of the program's speaks of.
+-- More on Renaming: what no promise of the program reaches.
 -- Source: FIRRTL Specification, "Instances": each instance of a module has all that the module declares, under names of its own.
 use Rattle.gg_flat.specs.Renaming.{Renaming, signals_by}
 

@@ -1,4 +1,4 @@
--- More on Run: what no promise of the program's speaks of.
+-- More on Run: what no promise of the program reaches.
 -- Source: FIRRTL Specification, "Registers" (a state at a time); ICCAD 2019 for target cycles as rows. A cycle is a
 -- base tick, in which some of the circuit's clocks have an edge.
 use Rattle.std.specs.Prelude.{ℕ, List}

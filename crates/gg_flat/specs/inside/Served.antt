@@ -1,4 +1,4 @@
--- More on Served: what no promise of the program's speaks of.
+-- More on Served: what no promise of the program reaches.
 -- Source: FIRRTL Specification, "Memories". Late readers of old words come before the writers, and those of new words
 -- after them: this is what "Memories" says of a read under a write.
 use Rattle.std.specs.Prelude.{◌≡◌, ◌⊎◌, ℕ, List, [], ◌∷◌, fold, take, ⊤, Bool}

@@ -1,4 +1,4 @@
--- More on Clocked: what no promise of the program's speaks of.
+-- More on Clocked: what no promise of the program reaches.
 -- Source: FIRRTL Specification, "Instances" (an instance's input is connected where the instance stands), "Clock" types,
 -- "Registers", "Memories".
 use Rattle.std.specs.Prelude.{◌≡◌, ℕ, ◌<◌, Some, length}

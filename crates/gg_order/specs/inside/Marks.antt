@@ -1,4 +1,4 @@
--- More on Marks: what no promise of the program's speaks of.
+-- More on Marks: what no promise of the program reaches.
 use Rattle.std.specs.Prelude.{◌≡◌, ℕ, List, map, Bool, true, slice_index_or, ◌⊎◌}
 use Rattle.gg_flat.specs.declared.piece.Driver.{Driver}
 use Rattle.gg_flat.specs.declared.piece.Driver.TheVariants.{Input}

@@ -1,4 +1,4 @@
--- More on Building: what no promise of the program's speaks of.
+-- More on Building: what no promise of the program reaches.
 -- Source: this program's own. A part has its signals, registers and memories in the order of the lists that it is
 -- built from.
 use Rattle.std.specs.Prelude.{◌≡◌, ℕ, ◌<◌, List, [], ◌∷◌, ◌++◌, Option, length, map, take, slice_index_or, Contains}

@@ -1,4 +1,4 @@
--- More on Cycle: what no promise of the program's speaks of.
+-- More on Cycle: what no promise of the program reaches.
 -- Source: FIRRTL Specification, "Registers", "Clock" types; ICCAD 2019 for target cycles as rows. A cycle is a base tick.
 use Rattle.std.specs.Prelude.{ℕ, List}
 use Rattle.gg_flat.specs.Clock.{Ratio}

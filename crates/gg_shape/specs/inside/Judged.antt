@@ -1,4 +1,4 @@
--- More on Judged: what no promise of the program's speaks of.
+-- More on Judged: what no promise of the program reaches.
 -- Source: this program's own; what the faults are is defined in Shape, Rings and Memories.
 use Rattle.std.specs.Prelude.{List, ◌++◌, Result, Ok, Err}
 use Rattle.gg_ast.specs.Tree.{CircuitTree}

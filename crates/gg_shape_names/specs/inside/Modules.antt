@@ -1,4 +1,4 @@
--- More on Modules: what no promise of the program's speaks of.
+-- More on Modules: what no promise of the program reaches.
 pub use Rattle.gg_ast.specs.Tree.{module_at}
 use Rattle.std.proofs.Math.Nat.{not-suc-le-zero}
 use Rattle.std.specs.Prelude.{ℕ, List, Contains, flat_map, take}

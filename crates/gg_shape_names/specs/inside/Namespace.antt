@@ -1,4 +1,4 @@
--- More on Namespace: what no promise of the program's speaks of.
+-- More on Namespace: what no promise of the program reaches.
 use Rattle.std.specs.Prelude.{◌≡◌, ℕ, List, Option, length, take}
 use Rattle.gg_ast.specs.declared.expression.Reference.{Reference}
 use Rattle.gg_ast.specs.declared.statement.StmtKind as statements

@@ -1,4 +1,4 @@
--- More on Table: what no promise of the program's speaks of.
+-- More on Table: what no promise of the program reaches.
 use Rattle.std.specs.Prelude.{ℕ, ◌+◌, ◌*◌, List, map, slice_index}
 use Rattle.std.specs.List.{range_with_len}
 

@@ -1,4 +1,4 @@
--- More on Clocks: what no promise of the program's speaks of.
+-- More on Clocks: what no promise of the program reaches.
 use Rattle.std.specs.Prelude.{ℕ, List, [], ◌∷◌, Option}
 use Rattle.gg_ast.specs.declared.module.Port.{Port}
 use Rattle.gg_types.specs.Clocks.{clock_number, counted_clock}

@@ -1,4 +1,4 @@
--- More on Meaning: what no promise of the program's speaks of.
+-- More on Meaning: what no promise of the program reaches.
 -- Source: `clap`'s definitions for which words are taken (`fault_of`) and what is found in them (`subcommand_of`).
 use Rattle.std.specs.Prelude.{◌≡◌, ◌⊎◌, true, List, [], ◌∷◌, Option, None, Some, is_some, Result, Ok, Err, MatchResult, codes, ⊤}
 use Rattle.clap.specs.Walk.{Row, Text, first_of}
