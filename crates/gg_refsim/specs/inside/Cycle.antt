@@ -5,8 +5,8 @@ use Rattle.gg_flat.specs.Clock.{Ratio}
 use Rattle.gg_flat.specs.Circuit.{FlatCircuit}
 use Rattle.gg_flat.specs.State.{State, opening}
 
--- What a contract sees of a simulator: a circuit, the ratios of its clocks, how many cycles are behind the simulator, and
--- its state. A clock without a ratio has an edge in each cycle.
+-- What a contract sees of a simulator: a circuit, the ratios of its clocks, how many cycles were made, and its state. A clock without a
+-- ratio has an edge in each cycle.
 pub record Simulation : Type 0 where
   pub circuit : FlatCircuit
   pub ratios : List Ratio
