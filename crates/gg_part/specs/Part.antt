@@ -18,7 +18,6 @@ use Rattle.gg_flat.specs.WellFormed.{IsClock, IsClockedMemory}
 
 -- ---- the part's things in the numbers of the whole
 
-
 -- the numbers in the whole of what the part has: `globals` has the number of each signal of the part, and `clocks` the clock of the whole
 -- that each clock of the part follows, if any
 abbrev pub in_whole : (globals : List ℕ) (clocks : List (Option ℕ)) → Renaming

@@ -167,8 +167,7 @@ impl Tape {
 
     /// The value of the signal at this place of the tape's order, in this state and with these inputs.
     ///
-    /// State, inputs and cells are of the circuit's counts and types. Its driver can be evaluated, and there is room
-    /// for its line.
+    /// State, inputs and cells belong to the circuit. Its driver can be evaluated, and there is room for its line.
     #[inline(always)]
     pub fn value(
         &self,

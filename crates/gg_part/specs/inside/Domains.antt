@@ -1,4 +1,4 @@
--- What the Clock inputs of instances follow, up to the next instance that is a home. Above a home nothing is known.
+-- What the Clock inputs of instances follow inside their homes. Homes are some of the instances, and each is treated like a top.
 -- Source: FIRRTL Specification, "Clock" types, "Instances" (a Clock input is connected where the instance is declared). FireSim's clock
 -- domains: a part of a target knows only its own clock ports.
 use Rattle.std.specs.Prelude.{◌≡◌, ℕ, suc, List, [], ◌∷◌, Bool, Option, None, length, map, slice_index_or, if◌then◌else◌}
