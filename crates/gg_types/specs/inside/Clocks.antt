@@ -5,7 +5,7 @@ use Rattle.gg_types.specs.Clocks.{clock_number, counted_clock}
 
 -- ---- which Clock input
 
--- the same for each port
+-- `clock_number` for each port
 abbrev pub clock_numbers : ℕ → List Port → List (Option ℕ)
 clock_numbers count [] = []
 clock_numbers count (p ∷ ps) = clock_number count p ∷ clock_numbers (counted_clock count p) ps
