@@ -21,7 +21,7 @@ abbrev pub HaveTexts : List Text → List Row → Type 0
 HaveTexts [] rows = ⊤
 HaveTexts (id ∷ ids) rows = (is_some (first_of id rows) ≡ true) × HaveTexts ids rows
 
--- the files of `run`, as for each command the words that it requires, by their places
+-- the files of `run`, by their places
 abbrev pub run_files : List Text
 run_files = codes "circuit" ∷ codes "partition" ∷ codes "trace" ∷ []
 
