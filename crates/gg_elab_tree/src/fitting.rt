@@ -1,4 +1,4 @@
-//! The tree of a circuit beside its flat circuit.
+//! The tree of a circuit fits its flat circuit.
 ghost use Rattle.std.specs.Prelude.{◌≢◌, None};
 ghost use Rattle.gg_ast.specs.Places.{place_of};
 ghost use Rattle.gg_ast.specs.Tree.{module_names};

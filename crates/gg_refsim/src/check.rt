@@ -186,7 +186,7 @@ fn may_drive_all(piece: &Piece) -> bool
     true
 }
 
-// Whether every in-signal is a signal whose driver names its place among the in-signals.
+// Whether every in-signal is a signal, and its driver names its place among the in-signals.
 fn are_ins(piece: &Piece) -> bool
     ensures { IsTrue result ↔ ((place : ℕ) → place < length piece.now.ins
         → (value_at piece.now.ins place < length piece.now.signals)

@@ -87,8 +87,8 @@ impl<'a> Model for Mono<'a> {
 }
 
 impl<'a> Mono<'a> {
-    /// The simulator of a design whose clocks have these ratios, in the order in which the circuit lists them, in the
-    /// state before the first cycle. A clock past the end of the list has an edge in every cycle.
+    /// The simulator of a design in the state before the first cycle. The clocks have these ratios, in the order of the
+    /// circuit's clocks. A clock past the end of the list has an edge in every cycle.
     ///
     /// # Errors
     ///
