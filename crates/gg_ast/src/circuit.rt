@@ -100,7 +100,7 @@ impl Circuit {
     pub fn names_are_words(&self)
         ensures { AreNamesOfCircuit self.now }
     {
-        // for the invariant alone
+        // for the invariant only
         let _ = &self.line;
     }
 

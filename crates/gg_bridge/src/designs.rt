@@ -31,7 +31,7 @@ pub fn join_model(
     ensures circuit { IfOk result (λ made. made.circuit ≡ joined design.now.circuit front.now model.now sees.now drives.now) }
     ensures tree { IfOk result (λ made. made.tree ≡ design.now.tree) }
 {
-    // for the invariant alone
+    // for the invariant only
     let _ = design.order();
     joined_formed();
     joined_ordered();

@@ -38,28 +38,28 @@ impl<'a, B: Bridge + Drop> Node<'a, B> {
     {
         match self {
             Node::Unit(host) => {
-                // for the invariant alone
+                // for the invariant only
                 let _ = host.piece();
                 None
             }
             Node::Shared(host) => {
-                // for the invariant alone
+                // for the invariant only
                 let _ = host.piece();
                 None
             }
             Node::Memory(host) => {
-                // for the invariant alone
+                // for the invariant only
                 let _ = host.piece();
                 None
             }
             Node::Source(host) => {
-                // for the invariant alone
+                // for the invariant only
                 let _ = host.column();
                 None
             }
             Node::Tray(host) => host.value(cycle),
             Node::Bridge(host) => {
-                // for the invariant alone
+                // for the invariant only
                 let _ = host.ins();
                 None
             }

@@ -108,7 +108,7 @@ fn channels_for(
     requires machines { AreDraftMachines draft.now machines.now }
     ensures { IfOk result (λ channels. AreDraftChannels draft.now machines.now channels.items) }
 {
-    // for the invariant alone
+    // for the invariant only
     let _ = draft.design.piece();
     part_formed();
     let wires: &[Wire] = &seats.wires;

@@ -195,7 +195,7 @@ fn part_at(
     let draft = making.draft;
     let shares = draft.split.shares.as_slice();
     let before = &shares[number];
-    // for the invariant alone
+    // for the invariant only
     let _ = draft.design.piece();
     let _ = draft.design.order();
     let machine = MachineDraft {
@@ -224,7 +224,7 @@ fn part_body(
     requires first { first ≡ leader machine.now.draft.now.request.now.units machine.now.draft.now.request.now.share machine.now.number }
     ensures { IfOk result (λ body. IsNextBody machine.now.draft.now machine.now.domains.now machine.now.number machines.now body) }
 {
-    // for the invariant alone
+    // for the invariant only
     let _ = machine.draft.design.piece();
     let _ = machine.draft.design.order();
     units_stand_again();

@@ -60,7 +60,7 @@ fn model_copy(models: &Models, name: &Name) -> Result<Piece, AllocError>
     requires { Contains (model_names models.now) name.now }
     ensures { IfOk result (λ model. model_named models.now name.now ≡ Some model) }
 {
-    // for the invariant alone
+    // for the invariant only
     let _ = models.len();
     match models.find(name) {
         Some(place) => match models.piece(place) {

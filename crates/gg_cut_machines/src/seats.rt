@@ -110,7 +110,7 @@ fn starts_of(draft: &Draft, takers: &Takers) -> Starts
     ensures { AreStarts draft.now result }
 {
     let listed = &draft.listed;
-    // for the invariant alone
+    // for the invariant only
     let _ = draft.design.piece();
     let source = 1 + listed.units.as_slice().len() + listed.memories.as_slice().len();
     let tray = source + open_count(&takers.drivers);

@@ -45,7 +45,7 @@ pub fn moved_part(
 {
     let draft = machine.draft;
     let whole = draft.design.piece();
-    // for the invariant alone
+    // for the invariant only
     let _ = whole.signal_count();
     let _ = draft.design.order();
     let from = first_signal(draft, first);

@@ -20,7 +20,7 @@ pub fn cut_part(alloc: Global, machine: &MachineDraft) -> Result<Part, AllocErro
     ensures timed { IfOk result (λ part. IsUnitTimed machine.now part) }
 {
     let draft = machine.draft;
-    // for the invariant alone
+    // for the invariant only
     let _ = draft.design.order();
     part_in_order();
     let ins = signals(alloc, draft.wires(), machine.ins)?;

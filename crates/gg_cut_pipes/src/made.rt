@@ -109,7 +109,7 @@ fn add_signal(
               ++ seen_signal (views_by tables.now) place (slice_index_or one.now.signals place any) ∷ [];
         }) }
 {
-    // for the invariant alone
+    // for the invariant only
     let _ = one.signal_count();
     let number = place as u32;
     let path = path_behind(alloc, "", one, number)?;
@@ -172,7 +172,7 @@ fn add_pipes(alloc: Global, one: &Piece, pipes: &[u32], piece: &mut Piece) -> Re
           ++ pipe_signals one.now.signals (length one.now.registers) pipes.now;
     }) }
 {
-    // for the invariant alone
+    // for the invariant only
     let _ = one.signal_count();
     let first = one.registers().len() as u32;
     for place in 0..pipes.len() {
@@ -199,7 +199,7 @@ fn add_pipe(
           signals = piece.old.signals ++ pipe_signal register (slice_index_or one.now.signals signal any) ∷ [];
         }) }
 {
-    // for the invariant alone
+    // for the invariant only
     let _ = one.signal_count();
     let path = path_behind(alloc, "pipe:", one, signal)?;
     let ty = one.signals()[signal as usize].ty;

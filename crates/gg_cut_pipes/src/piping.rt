@@ -27,7 +27,7 @@ pub fn pipe(alloc: Global, design: &Design, plan: &Plan) -> Result<Design, Alloc
 {
     // their contracts say that the design is one
     let count = design.piece().signals().len();
-    // for the invariant alone
+    // for the invariant only
     let _ = design.order();
     let pipes = pipes_in(alloc, count, plan.channels.as_slice())?;
     let circuit = circuit_of(alloc, design, plan, &pipes)?;
@@ -47,7 +47,7 @@ fn circuit_of(
     requires pipes { pipes.now ≡ piped_signals (length design.now.circuit.signals) plan.now.channels }
     ensures { IfOk result (λ circuit. (can : CanPipe design.now plan.now) → circuit ≡ plan_reference design.now can.request) }
 {
-    // for the invariant alone: also, few enough memories
+    // for the invariant only: also, few enough memories
     let _ = design.order();
     let _ = design.tree().memory_count();
     let piece = design.piece();

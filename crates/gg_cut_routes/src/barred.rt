@@ -50,7 +50,7 @@ fn mark_named(marks: &mut [bool], piece: &Piece, name: &Name)
     ensures count { length marks.new ≡ length marks.old }
     ensures marks { (s : ℕ) → s < length piece.now.signals → is_marked marks.new s ≡ (is_marked marks.old s || bytes_eq (path_at piece.now.paths s) name.now) }
 {
-    // for the invariant alone
+    // for the invariant only
     let _ = piece.signal_count();
     match piece.find(name) {
         Some(signal) => marks[signal as usize] = true,
@@ -75,7 +75,7 @@ fn mark_input(marks: &mut [bool], piece: &Piece, name: &Name)
     ensures count { length marks.new ≡ length marks.old }
     ensures marks { (s : ℕ) → s < length piece.now.signals → is_marked marks.new s ≡ (is_marked marks.old s || (is_input (driver_at piece.now s) && bytes_eq (path_at piece.now.paths s) name.now)) }
 {
-    // for the invariant alone
+    // for the invariant only
     let _ = piece.signal_count();
     match piece.find(name) {
         Some(signal) => {

@@ -43,7 +43,7 @@ pub fn plan_routes(
     ensures sound { IfOk result (λ found. AreRoutes design.now listed.now (plan_hub design.now.circuit design.now.tree request.now)) }
 {
     channels_routed();
-    // for the invariant alone
+    // for the invariant only
     let _ = design.order();
     let barred = barred_of(alloc, design.piece(), request)?;
     let channels = routes(alloc, design, listed, split, &barred, request.direct)?;

@@ -139,7 +139,7 @@ fn signal_of(piece: &Piece, port: &Name) -> Option<u32>
     ensures place { result ≡ place_of piece.now.paths port.now }
     ensures known { IfSome result (λ s. s < length piece.now.signals) }
 {
-    // for the invariant alone
+    // for the invariant only
     let _ = piece.signal_count();
     piece.find(port)
 }
@@ -178,7 +178,7 @@ fn ports_fit(piece: &Piece, ports: &[Name], model: &Piece, signals: &[u32]) -> b
 fn place_of(models: &Models, name: &Name) -> Option<usize>
     ensures { result ≡ place_of (model_names models.now) name.now }
 {
-    // for the invariant alone
+    // for the invariant only
     let _ = models.len();
     models.find(name)
 }

@@ -42,7 +42,7 @@ pub(crate) fn is_channel(piece: &Piece, _signals: &[u32], marks: &[bool], name: 
     requires count { length marks.now ≡ length piece.now.signals }
     ensures { result ≡ is_among (channel_names piece.now _signals.now) name.now }
 {
-    // for the invariant alone
+    // for the invariant only
     let _ = piece.signal_count();
     match piece.find(name) {
         Some(signal) => marks[signal as usize],

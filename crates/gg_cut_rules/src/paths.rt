@@ -12,7 +12,7 @@ use std::alloc::Global;
 pub(crate) fn instance(tree: &Tree, path: &Name) -> Option<u32>
     ensures { result ≡ place_of tree.now.paths path.now }
 {
-    // for the invariant alone
+    // for the invariant only
     let _ = tree.len();
     tree.find(path)
 }
@@ -21,7 +21,7 @@ pub(crate) fn instance(tree: &Tree, path: &Name) -> Option<u32>
 pub(crate) fn memory(tree: &Tree, path: &Name) -> Option<u32>
     ensures { result ≡ place_of tree.now.memory_paths path.now }
 {
-    // for the invariant alone
+    // for the invariant only
     let _ = tree.memory_count();
     tree.find_memory(path)
 }

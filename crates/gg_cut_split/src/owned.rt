@@ -51,7 +51,7 @@ pub fn owned_of(alloc: Global, design: &Design, listed: &Listed) -> Result<Owned
     ensures signals { IfOk result (λ found. (s : ℕ) → s < length design.now.circuit.signals → IsInner found.wires s → value_at found.signals s ≡ owner_of design.now.circuit design.now.tree listed.now s) }
     ensures memories { IfOk result (λ found. (place : ℕ) → place < length design.now.tree.memories → value_at found.memories place ≡ memory_owner design.now.tree listed.now place) }
 {
-    // for the invariant alone
+    // for the invariant only
     let _ = design.piece().signal_count();
     let whole = Whole {
         piece: design.piece(),

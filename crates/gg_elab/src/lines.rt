@@ -86,7 +86,7 @@ fn zero_line(alloc: Global, scope: &Scope, ty: Ty) -> Result<Line, AllocError>
     ensures zeroed { IfOk result (IsLineFor (context_of scope.now) (shape ty) (Some Zeroed)) }
     ensures fits { IfOk result (IsSource (HasType (context_of scope.now).bindings.signals.shapes) (shape ty)) }
 {
-    // for the invariant alone
+    // for the invariant only
     let _ = scope.number;
     let mut line = Line::new(alloc);
     add_zero_of(&mut line, ty)?;

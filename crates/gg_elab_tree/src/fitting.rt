@@ -24,7 +24,7 @@ pub fn fits(typed: &Typed, piece: &Piece, tree: &Tree)
 {
     let circuit = typed.names().circuit();
     circuit.names_are_words();
-    // for the invariant alone
+    // for the invariant only
     let _ = piece.signal_count();
     let _ = tree.len();
     let _ = tree.memory_count();

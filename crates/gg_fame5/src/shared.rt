@@ -337,25 +337,25 @@ impl<'a> Host for Shared<'a> {
     }
 
     fn due(&self, thread: u32) -> Option<u32> {
-        // for the invariant alone
+        // for the invariant only
         let _ = self.lane(thread);
         None
     }
 
     fn served(&self, thread: u32) -> u32 {
-        // for the invariant alone
+        // for the invariant only
         let _ = self.lane(thread);
         0
     }
 
     fn dues(&self, thread: u32) -> u32 {
-        // for the invariant alone
+        // for the invariant only
         let _ = self.lane(thread);
         0
     }
 
     fn port_count(&self, thread: u32) -> u32 {
-        // for the invariant alone
+        // for the invariant only
         let _ = self.lane(thread);
         0
     }
@@ -396,7 +396,7 @@ impl<'a> Host for Shared<'a> {
     }
 
     fn serve(&mut self, thread: u32, port: u32) {
-        // for the invariant alone
+        // for the invariant only
         let _ = self.lane(thread);
     }
 

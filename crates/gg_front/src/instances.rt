@@ -21,7 +21,7 @@ pub fn copies(typed: &Typed, piece: &Piece, tree: &Tree)
 {
     let circuit = typed.names().circuit();
     circuit.names_are_words();
-    // for the invariant alone
+    // for the invariant only
     let _ = top_of(typed);
     let _ = typed.order();
     let _ = piece.signal_count();

@@ -119,7 +119,7 @@ impl<H: Host, Z: Streams> Net<H, Z> {
     pub fn kept(&self)
         ensures { Kept Z.flow self.now }
     {
-        // for the invariant alone
+        // for the invariant only
         let _ = &self.shape;
     }
 
@@ -127,7 +127,7 @@ impl<H: Host, Z: Streams> Net<H, Z> {
     pub fn within_limits(&self)
         ensures { IsWithinLimits (frame_of self.now) }
     {
-        // for the invariant alone
+        // for the invariant only
         let _ = &self.shape;
     }
 
@@ -239,7 +239,7 @@ impl<H: Host, Z: Streams> Net<H, Z> {
         ensures { result ≡ puts self.now channel }
     {
         self.kept();
-        // for the invariant alone
+        // for the invariant only
         let _ = self.end();
         let wire = self.wire(channel);
         let cycle = self.cycle(wire.producer);
@@ -256,7 +256,7 @@ impl<H: Host, Z: Streams> Net<H, Z> {
         ensures { result ≡ takes self.now channel }
     {
         self.kept();
-        // for the invariant alone
+        // for the invariant only
         let _ = self.end();
         let wire = self.wire(channel);
         let cycle = self.cycle(wire.consumer);

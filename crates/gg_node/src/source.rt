@@ -157,7 +157,7 @@ impl Host for Source {
     }
 
     fn latched(&self, thread: u32, place: u32) -> bool {
-        // for the invariant alone
+        // for the invariant only
         let _ = &self.cycle;
         false
     }
@@ -167,31 +167,31 @@ impl Host for Source {
     }
 
     fn missing(&self, thread: u32, place: u32) -> Option<u32> {
-        // for the invariant alone
+        // for the invariant only
         let _ = &self.cycle;
         None
     }
 
     fn due(&self, thread: u32) -> Option<u32> {
-        // for the invariant alone
+        // for the invariant only
         let _ = &self.cycle;
         None
     }
 
     fn served(&self, thread: u32) -> u32 {
-        // for the invariant alone
+        // for the invariant only
         let _ = &self.cycle;
         0
     }
 
     fn dues(&self, thread: u32) -> u32 {
-        // for the invariant alone
+        // for the invariant only
         let _ = &self.cycle;
         0
     }
 
     fn port_count(&self, thread: u32) -> u32 {
-        // for the invariant alone
+        // for the invariant only
         let _ = &self.cycle;
         0
     }
@@ -201,7 +201,7 @@ impl Host for Source {
     }
 
     fn latch(&mut self, thread: u32, place: u32, value: u128) {
-        // for the invariant alone
+        // for the invariant only
         let _ = &self.cycle;
     }
 
@@ -211,7 +211,7 @@ impl Host for Source {
     }
 
     fn serve(&mut self, thread: u32, port: u32) {
-        // for the invariant alone
+        // for the invariant only
         let _ = &self.cycle;
     }
 

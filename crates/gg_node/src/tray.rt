@@ -149,43 +149,43 @@ impl Host for Tray {
     }
 
     fn fired(&self, thread: u32, place: u32) -> bool {
-        // for the invariant alone
+        // for the invariant only
         let _ = &self.cycle;
         false
     }
 
     fn missing(&self, thread: u32, place: u32) -> Option<u32> {
-        // for the invariant alone
+        // for the invariant only
         let _ = &self.cycle;
         None
     }
 
     fn due(&self, thread: u32) -> Option<u32> {
-        // for the invariant alone
+        // for the invariant only
         let _ = &self.cycle;
         None
     }
 
     fn served(&self, thread: u32) -> u32 {
-        // for the invariant alone
+        // for the invariant only
         let _ = &self.cycle;
         0
     }
 
     fn dues(&self, thread: u32) -> u32 {
-        // for the invariant alone
+        // for the invariant only
         let _ = &self.cycle;
         0
     }
 
     fn port_count(&self, thread: u32) -> u32 {
-        // for the invariant alone
+        // for the invariant only
         let _ = &self.cycle;
         0
     }
 
     fn token(&mut self, thread: u32, place: u32) -> u128 {
-        // for the invariant alone
+        // for the invariant only
         let _ = &self.cycle;
         0
     }
@@ -195,13 +195,13 @@ impl Host for Tray {
     }
 
     fn fire(&mut self, thread: u32, place: u32) -> u128 {
-        // for the invariant alone
+        // for the invariant only
         let _ = &self.cycle;
         0
     }
 
     fn serve(&mut self, thread: u32, port: u32) {
-        // for the invariant alone
+        // for the invariant only
         let _ = &self.cycle;
     }
 

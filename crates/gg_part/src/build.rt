@@ -107,7 +107,7 @@ fn add_signals(
     ensures only { OnOk result (piece.new ≡ record no_circuit { paths = piece.new.paths; signals = piece.new.signals }) }
     ensures signals { OnOk result (AreSignals whole.now frame.now.globals frame.now.ins frame.now.held frame.now.memories (length frame.now.globals) piece.new) }
 {
-    // for the invariant alone: few enough signals for a piece
+    // for the invariant only: few enough signals for a piece
     let _ = whole.signal_count();
     for signal in frame.globals.as_slice() {
         add_signal(alloc, whole, frame, *signal, piece)?;

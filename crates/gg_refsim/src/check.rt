@@ -216,7 +216,7 @@ fn are_outs(piece: &Piece) -> bool
 pub fn is_well_formed(piece: &Piece) -> bool
     ensures { IsTrue result ↔ IsWellFormed piece.now }
 {
-    // for the invariant alone: each signal has its own path
+    // for the invariant only: each signal has its own path
     let _ = piece.signal_count();
     if !are_ins(piece) {
         return false;

@@ -123,7 +123,7 @@ impl<'a> Mono<'a> {
         ensures ordered { (order : List ℕ) × IsOrder self.now.circuit order }
         ensures typed { IsState self.now.circuit self.now.state }
     {
-        // for the invariant alone
+        // for the invariant only
         let _ = self.design.order();
         self.design.piece()
     }
@@ -145,7 +145,7 @@ impl<'a> Mono<'a> {
             → (printed ≡ outs.new) × (after ≡ self.new.state) }
     {
         let piece = self.design.piece();
-        // for the invariant alone
+        // for the invariant only
         let _ = self.design.order();
         self.tape
             .settle(piece, &self.state, inputs, &mut self.cells);

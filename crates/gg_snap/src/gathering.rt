@@ -33,12 +33,12 @@ fn state_of<'n, B: Bridge + Drop>(
         Node::Shared(host) => Ok(Some(host.state(thread))),
         Node::Memory(host) => Ok(Some(host.state(thread))),
         Node::Source(host) => {
-            // for the invariant alone
+            // for the invariant only
             let _ = host.column();
             Ok(None)
         }
         Node::Tray(host) => {
-            // for the invariant alone
+            // for the invariant only
             let _ = host.value(0);
             Ok(None)
         }

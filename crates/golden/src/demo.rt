@@ -87,7 +87,7 @@ fn demo_case(alloc: Global, size: u32) -> Result<Case, Ending>
     let design = demo_design(alloc, size)?;
     match demo_cut(alloc, size, &design) {
         Ok(cut) => {
-            // for the invariant alone
+            // for the invariant only
             let _ = design.order();
             let _ = design.piece();
             Ok(Case { design, cut })
@@ -115,7 +115,7 @@ fn demo_inputs(
 {
     let text = trace_text(alloc, seed, size)?;
     let trace = inputs_of(alloc, text.as_bytes(), design, request)?;
-    // for the invariant alone: the limit on rows
+    // for the invariant only: the limit on rows
     let _ = trace.rows();
     Ok(trace)
 }

@@ -86,7 +86,7 @@ pub fn read_case<S: Shelf>(
 {
     let design = load_circuit(alloc, shelf, circuit)?;
     let cut = read_cut(alloc, shelf, partition, &design, models, saves, capacity)?;
-    // for the invariant alone
+    // for the invariant only
     let _ = design.order();
     let _ = design.piece();
     Ok(Case { design, cut })
@@ -118,7 +118,7 @@ pub fn read_fed<S: Shelf>(
 {
     let case = read_case(alloc, shelf, circuit, partition, models, saves, capacity)?;
     let inputs = read_inputs(alloc, shelf, trace, &case.design, &case.cut.request)?;
-    // for the invariant alone: the limit on rows
+    // for the invariant only: the limit on rows
     let _ = inputs.rows();
     Ok(Fed {
         case,

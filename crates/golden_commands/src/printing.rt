@@ -129,7 +129,7 @@ fn print_simulated<K: Sink>(
     ensures out { SinkWentOn K.Sink out.old out.new }
 {
     runs_along();
-    // for the invariant alone
+    // for the invariant only
     let _ = design.order();
     let _ = design.piece();
     let mut mono = match Mono::with_clocks(alloc, design, ratios) {

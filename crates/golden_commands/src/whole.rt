@@ -39,7 +39,7 @@ pub fn reference_of(alloc: Global, case: &Case) -> Result<Design, AllocError>
 fn place_of(models: &Models, name: &Name) -> Option<usize>
     ensures { result ≡ place_of (model_names models.now) name.now }
 {
-    // for the invariant alone
+    // for the invariant only
     let _ = models.len();
     models.find(name)
 }

@@ -154,7 +154,7 @@ fn memory_path(tree: &Tree, place: u32) -> &Name
     requires { place < length tree.now.memories }
     ensures { result.now ≡ path_at tree.now.memory_paths place }
 {
-    // for the invariant alone
+    // for the invariant only
     let _ = tree.memory_count();
     match tree.memory_path(place) {
         Some(path) => path,
@@ -223,7 +223,7 @@ pub(crate) fn rows_of(alloc: Global, design: &Design) -> Result<Vec<Row>, AllocE
 {
     let piece = design.piece();
     let tree = design.tree();
-    // for the invariant alone
+    // for the invariant only
     let _ = tree.memory_count();
     let registers = signal_rows(alloc, piece, Kind::Register)?;
     let reads = signal_rows(alloc, piece, Kind::Read)?;

@@ -39,7 +39,7 @@ fn advance(
     requires within { cycle < inputs.now.rows }
     ensures { IsState design.now.circuit state.new }
 {
-    // for the invariant alone: the limit on rows
+    // for the invariant only: the limit on rows
     let _ = inputs.rows();
     let piece = design.piece();
     let timing = Timing::new(alloc, ratios, cycle)?;
@@ -148,7 +148,7 @@ fn is_begun(
     requires none { models.now ≡ [] }
     requires within { 2 ≤ inputs.now.rows }
 {
-    // for the invariant alone
+    // for the invariant only
     let _ = design.order();
     let _ = design.piece();
     let _ = inputs.rows();

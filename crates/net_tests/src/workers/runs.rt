@@ -183,7 +183,7 @@ fn is_planned<R: Threads + Sync, L: Link, G: Gate + Sync>(
     requires fed { IsColumns design.now.circuit inputs.now.rows inputs.now.columns }
     requires alone { request.now.bridges ≡ [] }
 {
-    // for the invariant alone
+    // for the invariant only
     let _ = design.order();
     let _ = design.piece();
     let _ = inputs.rows();
