@@ -3,7 +3,7 @@ use Rattle.std.specs.Prelude.{ℕ, Bool, false, ◌||◌, ◌&&◌, ◌==◌, Is
 use Rattle.std.specs.Char.{is_ascii_alphabetic, is_ascii_alphanumeric}
 use Rattle.std.specs.List.{list_all}
 
--- a letter or `_`, with which a name begins
+-- a letter or `_`, which may begin a name
 abbrev pub begins_name : ℕ → Bool
 begins_name b = is_ascii_alphabetic b || b == 95
 
@@ -16,6 +16,6 @@ abbrev pub is_name : List ℕ → Bool
 is_name [] = false
 is_name (b ∷ bs) = begins_name b && list_all is_name_byte bs
 
--- the same as a fact
+-- `is_name` as a fact
 abbrev pub IsName : List ℕ → Type 0
 IsName text = IsTrue (is_name text)

@@ -8,7 +8,7 @@ use Rattle.gg_ast.specs.declared.statement.MemoryField.{MemoryField}
 use Rattle.gg_ast.specs.declared.statement.Report.{Report}
 use Rattle.gg_ast.specs.Term.{Term}
 
--- one line, without its number; words in capitals stand for what varies
+-- one line, without its number; words in capitals are what varies
 pub data Row : Type 0 where
   -- FIRRTL version n . n . n
   VersionRow : ℕ → ℕ → ℕ → Row

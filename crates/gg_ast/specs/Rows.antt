@@ -45,7 +45,7 @@ kind_rows line (Report word arguments label) = numbered line (ReportRow word arg
 abbrev pub statement_rows : Stmt → List Numbered
 statement_rows s = kind_rows s.line s.kind
 
--- those of the statements, one after another
+-- the rows of the statements, one after another
 abbrev pub rows_of_statements : List Stmt → List Numbered
 rows_of_statements [] = []
 rows_of_statements (s ∷ ss) = statement_rows s ++ rows_of_statements ss
@@ -54,7 +54,7 @@ rows_of_statements (s ∷ ss) = statement_rows s ++ rows_of_statements ss
 abbrev pub module_rows : ModuleTree → List Numbered
 module_rows m = numbered m.line (ModuleRow m.name) ∷ (map port_row m.ports ++ rows_of_statements m.statements)
 
--- those of the modules, one after another
+-- the rows of the modules, one after another
 abbrev pub rows_of_modules : List ModuleTree → List Numbered
 rows_of_modules [] = []
 rows_of_modules (m ∷ ms) = module_rows m ++ rows_of_modules ms

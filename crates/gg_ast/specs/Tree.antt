@@ -4,7 +4,7 @@ use Rattle.std.specs.Prelude.{ℕ, List, [], map, slice_index_or}
 use Rattle.gg_ast.specs.declared.module.Port.{Port}
 use Rattle.gg_ast.specs.declared.statement.Stmt.{Stmt}
 
--- a module: the line on which it begins, its name, its ports and its statements
+-- a module: the line of its header, its name, its ports and its statements
 pub record ModuleTree : Type 0 where
   pub line : ℕ
   pub name : List ℕ
@@ -21,7 +21,7 @@ pub record CircuitTree : Type 0 where
 abbrev pub empty_module : ℕ → List ℕ → ModuleTree
 empty_module line name = record { line = line; name = name; ports = []; statements = [] }
 
--- the module at a place of the file; past the end, one without a name that holds nothing
+-- the module at a place of the file; past the end, an empty module without a name
 abbrev pub module_at : List ModuleTree → ℕ → ModuleTree
 module_at modules k = slice_index_or modules k (empty_module 0 [])
 

@@ -95,12 +95,12 @@ impl Circuit {
         self.modules.as_slice()
     }
 
-    /// Does nothing. Its contract says of each circuit that its names are names: a letter or `_`, and then letters,
-    /// digits, `_` and `$`. So a name has no dot and no dash.
+    /// Does nothing. Its contract states that each name in a circuit is a letter or `_`, and then letters, digits, `_`
+    /// and `$`. Therefore a name has no dot and no dash.
     pub fn names_are_words(&self)
         ensures { AreNamesOfCircuit self.now }
     {
-        // for the invariant alone
+        // for the invariant only
         let _ = &self.line;
     }
 
@@ -159,8 +159,8 @@ impl Circuit {
 
     /// Adds a statement to the last module, as its last. There has to be a module.
     ///
-    /// The circuit then has the rows of that statement too: one, or several for a memory and for a register whose reset
-    /// has a line of its own (`statement_rows`). After a memory a field may follow (`IsOpenToFields`).
+    /// The circuit then has the rows of that statement too: one, or several for a memory and for a register with its
+    /// reset on the next line (`statement_rows`). After a memory a field may follow (`IsOpenToFields`).
     ///
     /// # Errors
     ///

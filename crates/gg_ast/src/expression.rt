@@ -34,7 +34,7 @@ pub struct Literal {
     pub width: u32,
     /// The digits' radix.
     pub radix: Radix,
-    /// Whether a `-` stands before the digits.
+    /// Whether there is a `-` before the digits.
     pub negative: bool,
     /// The digits, at least one, as written: leading zeros and the letters' case are kept.
     pub digits: Name,
@@ -76,7 +76,7 @@ pub enum ExprKind {
     Binary(Op2, Box<Expr>, Box<Expr>),
     /// An operation on one value with the parameters `n` and `m`; `m` is 0 where the operation takes one parameter.
     Fixed(OpN, Box<Expr>, u32, u32),
-    /// `mux(c, a, b)`: `a` where `c` is 1, else `b`.
+    /// `mux(c, a, b)`: `a` where `c` is 1, otherwise `b`.
     Mux(Box<Expr>, Box<Expr>, Box<Expr>),
 }
 

@@ -1,4 +1,4 @@
-//! What follows from the definitions alone.
+//! Laws that follow from the definitions.
 ghost use Rattle.std.specs.Prelude.{◌≡◌};
 ghost use Rattle.gg_ast.specs.Rows.{rows_of};
 ghost use Rattle.gg_ast.specs.Tree.{CircuitTree};

@@ -99,7 +99,7 @@ impl Module {
         }
     }
 
-    /// The line on which the module begins, counted from 1.
+    /// The line of the module's header, counted from 1.
     pub fn line(&self) -> u64
         ensures { result ≡ self.now.line }
     {

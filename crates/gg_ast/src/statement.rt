@@ -8,9 +8,9 @@ use gg_bits::{Name, Names};
 use std::alloc::{AllocError, Global};
 use std::marker::Model;
 
-/// A statement, with the line on which it begins, counted from 1.
+/// A statement, with its first line, counted from 1.
 pub struct Stmt {
-    /// The line on which the statement begins.
+    /// The first line of the statement.
     pub line: u64,
     /// What it says.
     pub kind: StmtKind,
@@ -148,7 +148,7 @@ pub enum MemoryField {
     ReadUnderWrite(ReadUnderWrite),
 }
 
-/// What a reader of latency 1 gives if a writer writes the same word in the same cycle.
+/// The value that a reader of latency 1 reads if a writer writes the same word in the same cycle.
 #[derive(Clone, Copy, PartialEq, Eq)]
 pub enum ReadUnderWrite {
     /// The word before the write.

@@ -100,7 +100,7 @@ pub fn find_operation(word: &str) -> Option<Operation>
     }
 }
 
-// The form of a line whose first word is one of these.
+// The form of a line that begins with one of the words of `head_words`.
 fn head_keyword(word: &str) -> Option<Keyword>
     ensures { result ≡ find_word word.now head_words }
 {
@@ -117,7 +117,7 @@ fn head_keyword(word: &str) -> Option<Keyword>
     }
 }
 
-// The form of a line whose first word is one of these.
+// The form of a line that begins with one of the words of `tail_words`.
 fn tail_keyword(word: &str) -> Option<Keyword>
     ensures { result ≡ find_word word.now tail_words }
 {
@@ -135,7 +135,7 @@ fn tail_keyword(word: &str) -> Option<Keyword>
     }
 }
 
-// The form of a line whose first word is one of these.
+// The form of a line that begins with the word of a memory's field.
 fn field_keyword(word: &str) -> Option<Keyword>
     ensures { result ≡ find_word word.now field_words }
 {
@@ -151,7 +151,7 @@ fn field_keyword(word: &str) -> Option<Keyword>
     }
 }
 
-// The form of a line whose first word is one of these, of the second spelling.
+// The form of a line that begins with a word of the second spelling.
 fn second_keyword(word: &str) -> Option<Keyword>
     ensures { result ≡ find_word word.now second_words }
 {
@@ -164,7 +164,7 @@ fn second_keyword(word: &str) -> Option<Keyword>
     }
 }
 
-/// The form of a line whose first word isn't the name of a sink, by this word.
+/// The form of a line by its first word, if that isn't the name of a sink.
 pub fn find_keyword(word: &str) -> Option<Keyword>
     ensures { result ≡ keyword_of word.now }
 {

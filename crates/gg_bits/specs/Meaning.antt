@@ -16,7 +16,7 @@ use Rattle.gg_bits.specs.ResultType.{shape1, shape2, shape_const, shape_mux}
 
 -- ---- the parts of the meanings
 
--- the one bit that stands for a truth value
+-- the bit of a truth value
 abbrev pub truth : Bool → ℤ
 truth true = pos 1
 truth false = pos 0
@@ -39,8 +39,8 @@ extended s w a = pattern_of w (number s a)
 
 -- ---- on one value
 
--- The number that an operation on one value stands for. `asUInt`, `asSInt`, `not` and the reductions read the pattern; `cvt` and `neg` read
--- the number, which depends on the kind.
+-- The result of an operation on one value, as a whole number. `asUInt`, `asSInt`, `not` and the reductions read the pattern; `cvt` and
+-- `neg` read the number, which depends on the kind.
 abbrev pub meaning1 : Op1 → Shape → ℕ → ℤ
 meaning1 AsUInt s a = pos a
 meaning1 AsSInt s a = pos a
@@ -57,7 +57,7 @@ value1 op s a = pattern_of (shape1 op s).width (meaning1 op s a)
 
 -- ---- on two values
 
--- The number that an operation on two values stands for. `cat` reads the patterns, a dynamic shift reads its amount as a pattern, and
+-- The result of an operation on two values, as a whole number. `cat` reads the patterns, a dynamic shift reads its amount as a pattern, and
 -- `and`, `or` and `xor` read patterns that are extended to the greater width first. `validif` is its second operand, whatever the condition
 -- is.
 abbrev pub meaning2 : Op2 → Shape → ℕ → Shape → ℕ → ℤ
@@ -86,8 +86,8 @@ value2 op s a t b = pattern_of (shape2 op s t).width (meaning2 op s a t b)
 
 -- ---- with parameters
 
--- The number that an operation with one value and parameters stands for. `bits` has the parameters hi and lo; the others have n alone and
--- ignore m. `bits`, `head` and `tail` read the pattern.
+-- The result of an operation on one value with parameters, as a whole number. `bits` has the parameters hi and lo; the others use only n.
+-- `bits`, `head` and `tail` read the pattern.
 abbrev pub meaning_const : OpN → Shape → ℕ → ℕ → ℕ → ℤ
 meaning_const Pad s a n m = number s a
 meaning_const Shl s a n m = number s a *ℤ pos (2 ^ n)
@@ -102,7 +102,7 @@ value_const op s a n m = pattern_of (shape_const op s n m).width (meaning_const 
 
 -- ---- the choice by a condition c
 
--- the number of the first value where the condition's pattern is 1, otherwise that of the second
+-- the number of the first value where the condition's pattern is 1, otherwise the number of the second
 abbrev pub meaning_mux : ℕ → Shape → ℕ → Shape → ℕ → ℤ
 meaning_mux c s a t b = if c == 1 then number s a else number t b
 

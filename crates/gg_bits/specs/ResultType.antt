@@ -1,7 +1,7 @@
 -- The type of each operation's result, and what is wrong if there is none.
--- Source: FIRRTL Specification, "Primitive Operations": each definition follows the table in the operation's section,
--- with one exception. The width of a `Shr` of a UInt is at least 1, as that of an SInt is; newer versions of the
--- specification let it be 0. The specification leaves some widths unbounded; here widths are 1 to 128.
+-- Source: FIRRTL Specification, "Primitive Operations": each definition follows the table in the operation's section, with one exception.
+-- The width of a `Shr` of a UInt is at least 1, as for an SInt; newer versions of the specification let it be 0. The specification leaves
+-- some widths unbounded; here widths are 1 to 128.
 use Rattle.std.specs.Prelude.{ℕ, ◌+◌, ◌-◌, ◌^◌, min, max, Bool, true, false, ◌&&◌, ◌==◌, nat_le, nat_lt, if◌then◌else◌, Result, Ok, Err}
 use Rattle.gg_bits.specs.declared.types.Kind as kinds
 use Rattle.gg_bits.specs.declared.types.Kind.TheVariants.{UInt, SInt}

@@ -31,6 +31,6 @@ shape ty = of_kind ty.kind ty.width
 abbrev pub Fits : Shape → ℕ → Type 0
 Fits s p = p < 2 ^ s.width
 
--- the number that a pattern stands for in this shape
+-- the number of a pattern of this shape
 abbrev pub number : Shape → ℕ → ℤ
 number s p = number_of s.kind s.width p

@@ -67,7 +67,8 @@ fn takes_kinds(op: Op2, ta: Ty, tb: Ty) -> bool
     }
 }
 
-// The kind and the width of the result, before the width is checked. 4,294,967,295 stands for any greater width.
+// The kind and the width of the result, before the width is checked. A width above 4,294,967,295 is returned as that
+// number.
 fn kind_and_width2(op: Op2, ta: Ty, tb: Ty) -> (Kind, u32)
     ensures kind { result.0 ≡ (shape2 op (shape ta) (shape tb)).kind }
     ensures width { result.1 ≡ min (shape2 op (shape ta) (shape tb)).width 4294967295 }
@@ -89,7 +90,8 @@ fn kind_and_width2(op: Op2, ta: Ty, tb: Ty) -> (Kind, u32)
     }
 }
 
-/// The width after a shift to the left by an amount of `amount` bits. 4,294,967,295 stands for any greater width.
+/// The width after a shift to the left by an amount of `amount` bits. A width above 4,294,967,295 is returned as that
+/// number.
 pub fn shifted_width(width: u32, amount: u32) -> u32
     ensures { result ≡ min (width + 2 ^ amount - 1) 4294967295 }
 {

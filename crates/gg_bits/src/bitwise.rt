@@ -43,7 +43,7 @@ pub(crate) fn differing(width: u32, ta: Ty, a: Val, tb: Ty, b: Val) -> u128
     a.0 ^ b.0
 }
 
-// The bits of `a` above those of `b`.
+// The bits of `a` above the bits of `b`.
 pub(crate) fn concatenate(_ta: Ty, a: Val, tb: Ty, b: Val) -> u128
     requires few { _ta.width + tb.width ≤ 128 }
     requires first { Fits (shape _ta) a.0 }

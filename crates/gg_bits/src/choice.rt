@@ -26,7 +26,7 @@ pub fn result_mux(tc: Ty, ta: Ty, tb: Ty) -> Result<Ty, Bad>
     judge_width(ta.kind, ta.width.max(tb.width))
 }
 
-/// `mux(c, a, b)`: `a` where `c` is 1, else `b`, in the width of the wider.
+/// `mux(c, a, b)`: `a` where `c` is 1, otherwise `b`, in the width of the wider.
 pub fn mux(c: Val, ta: Ty, a: Val, tb: Ty, b: Val) -> Val
     requires kinds { ta.kind ≡ tb.kind }
     requires condition { c.0 < 2 }

@@ -1,7 +1,7 @@
 //! Flags.
 ghost use Rattle.std.specs.Prelude.{◌≡◌, ◌||◌};
 
-/// Whether one of two is true.
+/// Whether at least one of the two is true.
 pub fn either(one: bool, other: bool) -> bool
     ensures { result ≡ (one || other) }
 {

@@ -1,14 +1,14 @@
 //! Values, types and operations of lowered FIRRTL, and the small types and limits that every crate shares.
 //!
-//! A value is a bit pattern of at most 128 bits. It stands for a whole number, signed where its type is `SInt`
-//! (FIRRTL Specification, "Ground Types"). The crate promises, for each primitive operation of the specification:
+//! A value is a bit pattern of at most 128 bits. It encodes a whole number, signed where its type is `SInt` (FIRRTL
+//! Specification, "Ground Types"). The crate promises, for each primitive operation of the specification:
 //!
 //! - the pattern that it computes is the pattern of the operation's meaning over the whole numbers;
 //! - the type that it returns is the specification's, and otherwise the first thing that is wrong.
 //!
-//! No call of an operation allocates. How each operation is written is here too, in both directions. So are the limits
-//! of the program: where the definitions in `specs/Limits` have a number of the same name, it is the constant.
-//! `Paths` keeps names apart: it numbers paths in their order, no two of them equal.
+//! No call of an operation allocates. The crate also has the spelling of each operation, in both directions, and the
+//! limits of the program: a constant is the number of the same name in `specs/Limits`, where there is one. `Paths`
+//! numbers paths in their order, no two of them equal.
 #![tactic(auto)]
 
 mod arithmetic;

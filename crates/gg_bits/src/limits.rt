@@ -30,13 +30,13 @@ pub const STEPS_LIMIT: u64 = 67_108_864;
 /// The most bytes of a snapshot's file.
 pub const SNAP_LIMIT: u64 = 67_108_864;
 
-/// The most by which the `(` from a line's beginning up to a token may outnumber the `)`.
+/// At each token of a line the count of `(` up to it, less the count of `)`, is at most this.
 pub const DEEPEST: usize = 256;
 
 /// The most workers.
 pub const MOST_WORKERS: u32 = 64;
 
-/// The latest cycle at which a snapshot is saved.
+/// The latest cycle of a snapshot.
 pub const LATEST_CYCLE: u32 = CYCLE_LIMIT as u32;
 
 /// The greatest seed of a demo.

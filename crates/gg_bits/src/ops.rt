@@ -57,7 +57,7 @@ pub enum Op2 {
     Or,
     /// `xor`: bit by bit.
     Xor,
-    /// `cat`: the bits of the first above those of the second.
+    /// `cat`: the bits of the first above the bits of the second.
     Cat,
     /// `validif`: the second; the first is its condition.
     Validif,

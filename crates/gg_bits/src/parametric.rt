@@ -62,7 +62,8 @@ fn has_params(op: OpN, ty: Ty, n: u32, m: u32) -> bool
     }
 }
 
-// The kind and the width of the result, before the width is checked. 4,294,967,295 stands for any greater width.
+// The kind and the width of the result, before the width is checked. A width above 4,294,967,295 is returned as that
+// number.
 fn kind_and_width_const(op: OpN, ty: Ty, n: u32, m: u32) -> (Kind, u32)
     requires { params_const op (shape ty) n m ≡ true }
     ensures kind { result.0 ≡ (shape_const op (shape ty) n m).kind }

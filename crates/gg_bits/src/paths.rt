@@ -12,8 +12,8 @@ use std::marker::Model;
 /// Why a signal, an instance, a memory or a model was not added.
 #[derive(Clone, Copy, Debug, PartialEq, Eq)]
 pub enum AddError {
-    /// The path is already taken: a signal's if a signal was to be added, an instance's if an instance was, a memory's
-    /// if a memory was. For a model, the name is.
+    /// The path is taken: by another signal if a signal was to be added, and likewise for an instance and a memory. For
+    /// a model, its name is taken.
     Doubled,
     /// An allocation failed.
     NoMemory,

@@ -30,7 +30,7 @@ pub(crate) fn fit(x: u128, width: u32) -> u128
     x & ones(width)
 }
 
-// The pattern in 128 bits of the number that a value stands for.
+// The pattern in 128 bits of a value's number.
 pub(crate) fn wide(ty: Ty, v: Val) -> u128
     requires { Fits (shape ty) v.0 }
     ensures { result ≡ pattern_of 128 (number (shape ty) v.0) }
@@ -41,7 +41,7 @@ pub(crate) fn wide(ty: Ty, v: Val) -> u128
     }
 }
 
-// The pattern in 128 bits of the number that `x` stands for in two's complement of `width` bits.
+// The pattern in 128 bits of the number that `x` encodes in two's complement of `width` bits.
 fn sign_extend(x: u128, width: u32) -> u128
     requires positive { 1 ≤ width }
     requires bounded { width ≤ 128 }
@@ -70,7 +70,7 @@ pub fn extend(v: Val, ty: Ty, width: u32) -> Val
     }
 }
 
-// The number that a value of an `SInt` type stands for.
+// The number of a value of an `SInt` type.
 pub(crate) fn signed_number(ty: Ty, v: Val) -> i128
     requires kind { ty.kind ≡ Kind.SInt }
     requires typed { Fits (shape ty) v.0 }
@@ -79,7 +79,7 @@ pub(crate) fn signed_number(ty: Ty, v: Val) -> i128
     wide(ty, v).cast_signed()
 }
 
-// The one bit that stands for a truth value.
+// The bit of a truth value: 1 if it is true.
 pub(crate) fn bit(holds: bool) -> u128
     ensures { result ≡ pattern_of 1 (truth holds) }
 {

@@ -4,8 +4,8 @@ ghost use Rattle.std.specs.Prelude.{◌≡◌, ◌≤◌};
 use std::error::Error;
 use std::fmt;
 
-/// The kind of a ground type (FIRRTL Specification, "Ground Types"): whether its values stand for natural numbers or
-/// for signed ones, in two's complement.
+/// The kind of a ground type (FIRRTL Specification, "Ground Types"): whether its values are natural numbers, or signed
+/// ones in two's complement.
 #[derive(Clone, Copy, Debug, PartialEq, Eq, Hash)]
 pub enum Kind {
     /// Natural numbers.
@@ -35,7 +35,8 @@ pub struct Val(pub u128);
 pub enum Bad {
     /// The operands have kinds that the operation does not take.
     Kind,
-    /// The result would have this width, which is 0 or above 128. 4,294,967,295 stands for any greater width.
+    /// The result would have this width, which is 0 or above 128. A width above 4,294,967,295 is returned as that
+    /// number.
     Width(u32),
     /// A parameter is out of its range.
     Param,

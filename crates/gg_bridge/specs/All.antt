@@ -3,6 +3,6 @@
 use Rattle.std.specs.Prelude.{◌++◌}
 use Rattle.gg_flat.specs.State.{State}
 
--- the state of a circuit with a model: that of the circuit, and behind it that of the model
+-- the state of a circuit with a model: the circuit's registers and banks, followed by the model's
 abbrev pub joined_state : State → State → State
 joined_state state model = record { registers = state.registers ++ model.registers; banks = state.banks ++ model.banks }

@@ -1,4 +1,4 @@
--- The machine of a bridge: it runs the bridge's model, whose ports have the order of the machine's ins and outs. No out needs an in.
+-- The machine of a bridge: it runs the bridge's model, with the model's ports in the order of the machine's ins and outs. No out needs an in.
 -- Source: MEMOCODE 2009 (a node with a latch for each input and a flag for each output); ICCAD 2019 (bridges: models in the host's
 -- own code, beside the units of a target).
 use Rattle.std.specs.Prelude.{ℕ, List, [], Option, None, Bool, false, length, replicate}

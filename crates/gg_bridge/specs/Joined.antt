@@ -1,6 +1,6 @@
--- A circuit with a bridge's model in it. The circuit's signals, registers and memories keep their numbers, and the model's stand
--- behind them. Each in-signal of the model is a copy of the signal that the bridge sees there, and each input of the circuit that
--- the bridge drives is a copy of the model's out-signal. What is driven is no input any more, and what is seen no output.
+-- A circuit with a bridge's model in it. The circuit's signals, registers and memories keep their numbers, and the model's come after them. Each
+-- in-signal of the model is a copy of the signal that the bridge sees there, and each input of the circuit that the bridge drives is a copy of the
+-- model's out-signal. What is driven is no input any more, and what is seen no output.
 -- Source: ICCAD 2019 (bridges: models in the host's own code that stand at a target's ports); FIRRTL Specification, "Connects".
 use Rattle.std.specs.Prelude.{ℕ, suc, List, [], ◌∷◌, ◌++◌, not, ◌==◌, if◌then◌else◌, Option, Some, None, option_map, unwrap_or, length, map, filter}
 use Rattle.std.specs.List.{list_any, range_with_len}
@@ -26,21 +26,21 @@ place_among (x ∷ xs) s = if x == s then Some 0 else option_map suc (place_amon
 abbrev pub without : List ℕ → List ℕ → List ℕ
 without gone list = filter (λ s. not (list_any (λ t. t == s) gone)) list
 
--- ---- the numbers of what stands behind
+-- ---- the numbers of the model's parts, after the circuit's
 
--- the numbers of the model's signals, behind those of the circuit
+-- the numbers of the model's signals, after the circuit's
 abbrev pub globals_behind : (one model : FlatCircuit) → List ℕ
 globals_behind one model = range_with_len (length one.signals) (length model.signals)
 
--- the numbers of its registers
+-- the numbers of the model's registers, after the circuit's
 abbrev pub held_behind : (one model : FlatCircuit) → List ℕ
 held_behind one model = range_with_len (length one.registers) (length model.registers)
 
--- the numbers of its memories
+-- the numbers of the model's memories, after the circuit's
 abbrev pub memories_behind : (one model : FlatCircuit) → List ℕ
 memories_behind one model = range_with_len (length one.memories) (length model.memories)
 
--- the numbers of what stands behind, by lists; a model has no clock but that of every tick
+-- the model's signals, registers and memories get the numbers in these lists; the model has no clock of its own
 abbrev pub behind_by : (globals held memories : List ℕ) → Renaming
 behind_by globals held memories = record { signals = value_at globals; registers = value_at held; memories = value_at memories; clocks = λ clock. None }
 
@@ -50,7 +50,7 @@ behind_by globals held memories = record { signals = value_at globals; registers
 abbrev pub copy_line : Ty → ℕ → List Node
 copy_line ty t = record { ty = ty; op = Ref t } ∷ []
 
--- the driver of a signal that isn't driven by the bridge: an input has its place among those that are left, any other driver stays
+-- the driver of a signal that isn't driven by the bridge: an input has its place among the inputs that are left, any other driver stays
 abbrev pub left_at : (left : Option ℕ) → Driver → Driver
 left_at left (Input place) = Input (unwrap_or left 0)
 left_at left (Held register) = Held register
@@ -72,19 +72,19 @@ linked_signal outs driven left signal = record { ty = signal.ty; driver = linked
 abbrev pub linked : (outs drives left : List ℕ) → ℕ → Signal → Signal
 linked outs drives left s signal = linked_signal outs (place_among drives s) (place_among left s) signal
 
--- the driver of a signal of the model, behind the circuit: an in-signal is a copy of what the bridge sees there
+-- the driver of a signal of the model, after the circuit's signals: an in-signal is a copy of what the bridge sees there
 abbrev pub driver_behind : (globals held memories sees : List ℕ) → Ty → Driver → Driver
 driver_behind globals held memories sees ty (Input place) = Computed (copy_line ty (value_at sees place))
 driver_behind globals held memories sees ty driver = renamed_driver (behind_by globals held memories) driver
 
--- a signal of the model, behind the circuit
+-- a signal of the model, after the circuit's signals
 abbrev pub signal_behind : (globals held memories sees : List ℕ) → Signal → Signal
 signal_behind globals held memories sees signal = record { ty = signal.ty; driver = driver_behind globals held memories sees signal.ty signal.driver }
 
 -- ---- the circuit
 
--- The circuit with a model in it, by numbers: those of the model's signals, registers and memories, what the bridge sees and drives,
--- the model's out-signals, and the ports that are left.
+-- The circuit with a model in it, by numbers: the numbers of the model's signals, registers and memories, what the bridge sees and drives, the
+-- model's out-signals, and the ports that are left.
 abbrev pub with_model : (one : FlatCircuit) (front : List ℕ) (model : FlatCircuit) (globals held memories sees drives said ins outs : List ℕ) → FlatCircuit
 with_model one front model globals held memories sees drives said ins outs =
     record {
@@ -97,8 +97,8 @@ with_model one front model globals held memories sees drives said ins outs =
       clocks = one.clocks;
     }
 
--- The circuit with a model in it, whose signals have paths with this front. The bridge sees the signals `sees`, one for each
--- in-signal of the model, and drives the in-signals `drives`, one for each out-signal.
+-- The circuit with a model in it. The paths of the model's signals get this front. The bridge sees the signals `sees`, one for each in-signal of the
+-- model, and drives the in-signals `drives`, one for each out-signal.
 abbrev pub joined : (one : FlatCircuit) (front : List ℕ) (model : FlatCircuit) (sees drives : List ℕ) → FlatCircuit
 joined one front model sees drives =
     with_model one front model (globals_behind one model) (held_behind one model) (memories_behind one model) sees drives

@@ -1,4 +1,4 @@
--- The ports at which a bridge stands, by their names.
+-- The ports of a bridge, by their names.
 -- Source: FIRRTL Specification, "Modules" (a port is known by its name); the paths of pipes and of models are this program's own.
 use Rattle.std.specs.Prelude.{ℕ, List, [], ◌∷◌, ◌++◌, Bool, false, ◌||◌, if◌then◌else◌, Option, Some, None, map, slice_get, codes, bytes_eq}
 use Rattle.gg_flat.specs.Circuit.{FlatCircuit}
@@ -8,7 +8,7 @@ use Rattle.gg_bridge.specs.Joined.{joined}
 abbrev pub front_of : List ℕ → List ℕ
 front_of name = codes "bridge:" ++ name ++ codes "."
 
--- a port's path is its name; behind a pipe it is that of the pipe
+-- a port's path is its name, or the path of its pipe
 abbrev pub is_path_of : List ℕ → Option (List ℕ) → Bool
 is_path_of name None = false
 is_path_of name (Some path) = bytes_eq path name || bytes_eq path (codes "pipe:" ++ name)
@@ -17,18 +17,18 @@ is_path_of name (Some path) = bytes_eq path name || bytes_eq path (codes "pipe:"
 abbrev pub is_called : FlatCircuit → List ℕ → ℕ → Bool
 is_called circuit name s = is_path_of name (slice_get circuit.paths s)
 
--- the first of these signals that is called so; 0 if none is
+-- the first of these signals with this name; 0 if there is none
 abbrev pub first_called : FlatCircuit → List ℕ → List ℕ → ℕ
 first_called circuit name [] = 0
 first_called circuit name (s ∷ signals) = if is_called circuit name s then s else first_called circuit name signals
 
--- ---- where a bridge can stand
+-- ---- where a bridge can be
 
--- the signals that a bridge sees at the outputs with these names, and those that it drives at the inputs with these names
+-- the signals that a bridge sees at the outputs with these names
 abbrev pub seen_at : FlatCircuit → List (List ℕ) → List ℕ
 seen_at circuit sees = map (λ name. first_called circuit name circuit.outs) sees
 
--- those that it drives at the inputs with these names
+-- the signals that a bridge drives at the inputs with these names
 abbrev pub driven_at : FlatCircuit → List (List ℕ) → List ℕ
 driven_at circuit drives = map (λ name. first_called circuit name circuit.ins) drives
 

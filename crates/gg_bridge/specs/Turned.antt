@@ -8,7 +8,7 @@ use Rattle.gg_flat.specs.Line.{value_at}
 use Rattle.gg_flat.specs.Circuit.{FlatCircuit}
 use Rattle.gg_bridge.specs.Joined.{place_among}
 
--- where a place stands among these; 0 if it doesn't
+-- the position of a place in this list; 0 if it isn't there
 abbrev pub place_in : List ℕ → ℕ → ℕ
 place_in places place = unwrap_or (place_among places place) 0
 
@@ -24,7 +24,8 @@ turned_driver ins (Computed line) = Computed line
 abbrev pub turned_signal : List ℕ → Signal → Signal
 turned_signal ins signal = record { ty = signal.ty; driver = turned_driver ins signal.driver }
 
--- The circuit whose in-signals are those at these places of the circuit, and whose out-signals are those at these places.
+-- The circuit with the in-signals at these places as its in-signals, and the out-signals at these places as its
+-- out-signals, in this order.
 abbrev pub turned : FlatCircuit → (ins outs : List ℕ) → FlatCircuit
 turned circuit ins outs =
     record {

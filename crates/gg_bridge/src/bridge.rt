@@ -7,11 +7,20 @@ ghost use Rattle.gg_bridge.specs.inside.Model.{IsSaid, IsAnswer};
 
 use gg_flat::Piece;
 
-/// A model in the host's own code, which stands at the ports of a circuit's top. It answers a cycle's outputs with the next
-/// cycle's inputs. No call allocates.
+/// A model in the host's own code, at the ports of a circuit's top. It answers a cycle's outputs with the next cycle's inputs. No call allocates.
 ///
-/// A contract sees a flat circuit, which never changes, and a state of it. The circuit is well formed, has no combinational
-/// loop and no clock but that of every tick, and no out-signal of it is an in-signal or depends on one in the same cycle (`IsModel`).
+/// A contract sees a flat circuit, which never changes, and a state of it. The circuit is well formed, has no combinational loop and no clock of its
+/// own, and no out-signal of it is an in-signal or depends on one in the same cycle (`IsModel`).
+///
+/// # Examples
+///
+/// ```
+/// let mut echo = Echo::new(alloc, 8)?;
+/// let mut out = [9];
+/// echo.says(&mut out); // out is [0], the register of an echo that has seen nothing
+/// echo.answer(&[7]);
+/// echo.says(&mut out); // out is [7]
+/// ```
 pub trait Bridge {
     ghost use Rattle.gg_flat.specs.Circuit.{FlatCircuit};
     ghost use Rattle.gg_flat.specs.State.{State};
@@ -33,7 +42,7 @@ pub trait Bridge {
         requires { length out.old ≡ length (piece self.now).outs }
         ensures { IsSaid (piece self.now) (state self.now) out.new };
 
-    /// Goes to the next state, after a cycle in which the in-signals have the values `seen`, in the model's order.
+    /// Goes to the next state, after a cycle with the values `seen` at the in-signals, in the model's order.
     fn answer(&mut self, seen: &[u128])
         requires { IsInputs (piece self.old) seen.now }
         ensures piece { piece self.new ≡ piece self.old }

@@ -12,8 +12,8 @@ use gg_flat::Piece;
 use gg_order::{Design, Order, OrderFault, no_loop, order};
 use std::alloc::{AllocError, Global};
 
-/// The design with a model in it, whose signals have paths with this front. The bridge sees the signals `sees`, one for each
-/// in-signal of the model, and drives the in-signals `drives`, one for each out-signal. The tree is that of the design.
+/// The design with a model in it. The paths of the model's signals get this front. The bridge sees the signals `sees`, one for each in-signal of the
+/// model, and drives the in-signals `drives`, one for each out-signal. The tree is the design's.
 ///
 /// # Errors
 ///
@@ -31,7 +31,7 @@ pub fn join_model(
     ensures circuit { IfOk result (λ made. made.circuit ≡ joined design.now.circuit front.now model.now sees.now drives.now) }
     ensures tree { IfOk result (λ made. made.tree ≡ design.now.tree) }
 {
-    // for the invariant alone
+    // for the invariant only
     let _ = design.order();
     joined_formed();
     joined_ordered();

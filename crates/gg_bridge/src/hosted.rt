@@ -154,31 +154,31 @@ impl<B: Bridge + Send + Drop> Host for Hosted<B> {
     }
 
     fn missing(&self, thread: u32, place: u32) -> Option<u32> {
-        // for the invariant alone
+        // for the invariant only
         let _ = &self.cycle;
         None
     }
 
     fn due(&self, thread: u32) -> Option<u32> {
-        // for the invariant alone
+        // for the invariant only
         let _ = &self.cycle;
         None
     }
 
     fn served(&self, thread: u32) -> u32 {
-        // for the invariant alone
+        // for the invariant only
         let _ = &self.cycle;
         0
     }
 
     fn dues(&self, thread: u32) -> u32 {
-        // for the invariant alone
+        // for the invariant only
         let _ = &self.cycle;
         0
     }
 
     fn port_count(&self, thread: u32) -> u32 {
-        // for the invariant alone
+        // for the invariant only
         let _ = &self.cycle;
         0
     }
@@ -198,7 +198,7 @@ impl<B: Bridge + Send + Drop> Host for Hosted<B> {
     }
 
     fn serve(&mut self, thread: u32, port: u32) {
-        // for the invariant alone
+        // for the invariant only
         let _ = &self.cycle;
     }
 

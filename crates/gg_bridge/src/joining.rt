@@ -48,7 +48,7 @@ fn left_driver(left: Option<u32>, driver: &Driver) -> Result<Driver, AllocError>
     }
 }
 
-// A signal of the circuit, by the places among those that are driven and among the inputs that are left.
+// A signal of the circuit, by the places of the driven signals and of the inputs that are left.
 fn linked(
     alloc: Global,
     outs: &[u32],
@@ -69,19 +69,19 @@ fn linked(
     })
 }
 
-// The numbers of what stands behind a circuit.
+// The numbers of a model's parts, after the circuit's.
 #[derive(Drop)]
 struct Behind {
-    // Those of signals.
+    // The numbers of its signals.
     globals: Vec<u32>,
-    // Those of registers.
+    // The numbers of its registers.
     held: Vec<u32>,
-    // Those of memories.
+    // The numbers of its memories.
     memories: Vec<u32>,
 }
 
 impl Behind {
-    // The numbers, and the clock of every tick.
+    // The lists of the numbers, and the clock of every tick.
     fn lists(&self) -> Lists
         ensures signals { result.signals.now ≡ self.now.globals.items }
         ensures registers { result.registers.now ≡ self.now.held.items }
@@ -97,7 +97,7 @@ impl Behind {
     }
 }
 
-// The driver of a signal of the model, behind the circuit.
+// The driver of a signal of the model, after the circuit's signals.
 fn driver_behind(
     alloc: Global,
     behind: &Behind,
@@ -120,7 +120,7 @@ fn driver_behind(
     }
 }
 
-// A signal of the model, behind the circuit.
+// A signal of the model, after the circuit's signals.
 fn signal_behind(
     alloc: Global,
     behind: &Behind,
@@ -138,7 +138,7 @@ fn signal_behind(
 
 // ---- signals
 
-// A word with the path of a signal behind it.
+// A word followed by the path of a signal.
 fn path_behind(alloc: Global, word: &str, one: &Piece, signal: u32) -> Result<Name, AllocError>
     requires { signal < length one.now.paths }
     ensures { IfOk result (λ name. name ≡ word.now ++ path_at one.now.paths signal) }
@@ -314,7 +314,7 @@ fn add_outs(outs: &[u32], piece: &mut Piece) -> Result<(), AllocError>
 
 // ---- the circuit
 
-// The numbers of what stands behind a circuit.
+// The numbers of a model's parts, after the circuit's.
 fn behind_of(alloc: Global, one: &Piece, model: &Piece) -> Result<Behind, AllocError>
     requires signals { length one.now.signals + length model.now.signals < 2 ^ 32 }
     requires registers { length one.now.registers + length model.now.registers ≤ 2 ^ 32 }
@@ -380,8 +380,8 @@ fn made(
     Ok(piece)
 }
 
-// The circuit with a model in it, whose signals have paths with this front. The bridge sees the signals `sees`, one for each
-// in-signal of the model, and drives the in-signals `drives`, one for each out-signal.
+// The circuit with a model in it. The paths of the model's signals get this front. The bridge sees the signals `sees`, one for each in-signal of the
+// model, and drives the in-signals `drives`, one for each out-signal.
 //
 // # Errors
 //

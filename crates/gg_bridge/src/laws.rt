@@ -27,15 +27,15 @@ pub fn joined_ordered()
     ensures { JoinedIsOrdered }
 {}
 
-/// A run of the circuit with a model, from any state of both, is a run of the circuit, whose inputs are those that it has there, and a
-/// run of the model on what the bridge sees. What the bridge drives has the columns of the model's out-signals.
+/// A run of the circuit with a model, from any state of both, is a run of the circuit on the inputs that it has there, and a run of the model on what
+/// the bridge sees. What the bridge drives has the columns of the model's out-signals.
 pub fn joined_runs()
     ensures circuit { RunsOfTheCircuit }
     ensures model { RunsOfTheModel }
     ensures driven { DrivesWhatTheModelSays }
 {}
 
-/// A state of the circuit and one of the model make one of the circuit with the model. Zeros of both are its zeros.
+/// A state of the circuit and a state of the model make a state of the circuit with the model. Zeros of both are its zeros.
 pub fn joined_is_state()
     ensures typed { StatesMakeAState }
     ensures zeros { (one : FlatCircuit) (front : List ℕ) (model : FlatCircuit) (sees drives : List ℕ) → joined_state (opening one) (opening model) ≡ opening (joined one front model sees drives) }
@@ -63,7 +63,7 @@ pub fn joined_all_states()
     ensures zeros { (one : FlatCircuit) (bridges : List Attached) → joined_states (opening one) bridges ≡ opening (joined_all one bridges) }
 {}
 
-/// Bridges whose ports are a circuit's own can be at its ports one after the other, if no two drive the same input and the paths of
+/// Bridges can be at a circuit's ports one after the other, if each can be at the circuit's own ports, no two drive the same input, and the paths of
 /// their models differ.
 pub fn bridges_join()
     ensures { (one : FlatCircuit) (bridges : List Attached) → IsWellFormed one → CanAttachEach one bridges → CanAttachAll one bridges }

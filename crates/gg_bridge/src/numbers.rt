@@ -52,7 +52,7 @@ fn fill_places(list: &[u32], places: &mut [Option<u32>])
     }
 }
 
-// A list of some of the first `count` numbers without those of another list.
+// A list of some of the first `count` numbers, without the numbers of another list.
 //
 // # Errors
 //
@@ -77,7 +77,7 @@ pub(crate) fn left_of(
     Ok(left)
 }
 
-// This many numbers from the first one on.
+// This many numbers, starting at `first`.
 //
 // # Errors
 //

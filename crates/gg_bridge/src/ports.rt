@@ -12,7 +12,7 @@ use gg_flat::Piece;
 use gg_order::Design;
 use std::alloc::{AllocError, Global};
 
-// A word with a name behind it.
+// A word followed by a name.
 fn behind(alloc: Global, word: &str, name: &str) -> Result<String, AllocError>
     ensures { IfOk result (λ text. string_bytes text ≡ word.now ++ name.now) }
 {
@@ -57,8 +57,8 @@ fn picked(list: &[u32], place: Option<u32>) -> u32
     }
 }
 
-// The first of these signals that is called so, by the table of their places: its path is the name, or that of a pipe with this name; 0 if
-// none is.
+// The first of these signals with this name, by the table of their places: its path is the name, or the path of the pipe with this name; 0 if there
+// is none.
 fn first_called(
     piece: &Piece,
     name: &Name,
@@ -76,7 +76,7 @@ fn first_called(
     picked(signals, earlier(own, piped))
 }
 
-// For each name the first of these signals that is called so.
+// For each name the first of these signals with this name.
 fn all_called(
     alloc: Global,
     piece: &Piece,
@@ -97,11 +97,11 @@ fn all_called(
     Ok(called)
 }
 
-/// The design with a bridge's model at its ports. The bridge sees the outputs `sees`, one for each in-signal of the model, and drives
-/// the inputs `drives`, one for each out-signal. What is driven is no input any more, and what is seen no output. The paths of the
-/// model's signals begin with `bridge:NAME.`. The tree is that of the design.
+/// The design with a bridge's model at its ports. The bridge sees the outputs `sees`, one for each in-signal of the model, and drives the inputs
+/// `drives`, one for each out-signal. What is driven is no input any more, and what is seen no output. The paths of the model's signals begin with
+/// `bridge:NAME.`. The tree is the design's.
 ///
-/// An output behind a pipe is called by the output's own name.
+/// An output after a pipe is called by the output's own name.
 ///
 /// # Errors
 ///

@@ -9,7 +9,25 @@ use gg_flat::{Driver, Piece, Signal};
 use std::alloc::{AllocError, Global};
 use std::marker::Model;
 
-/// What watches an output.
+/// Code that watches an output.
+///
+/// # Examples
+///
+/// ```
+/// #[derive(Drop)]
+/// struct Last {
+///     value: u128,
+/// }
+///
+/// impl Watch for Last {
+///     fn see(&mut self, seen: u128) {
+///         self.value = seen;
+///     }
+/// }
+///
+/// let mut watcher = Watcher::new(alloc, 8, Last { value: 0 })?;
+/// watcher.answer(&[7]); // calls `see` with 7
+/// ```
 pub trait Watch {
     /// Takes the output's value of one cycle.
     fn see(&mut self, seen: u128);

@@ -1,5 +1,5 @@
--- What a run of a plan's network is of, and the network before its first step.
--- Source: MEMOCODE 2009 (a synchronous circuit as a network of its parts, whose streams are the circuit's own); ICCAD
+-- The run of a plan's network, and the network before its first step.
+-- Source: MEMOCODE 2009 (a synchronous circuit as a network of its parts, with the circuit's own streams); ICCAD
 -- 2019 (units and memories of a target as models of their own).
 use Rattle.std.specs.Prelude.{◌≡◌, ℕ, ◌≤◌, List}
 use Rattle.gg_bits.specs.Limits.{capacity_limit}
@@ -18,31 +18,31 @@ use Rattle.gg_net.specs.Network.{Network}
 use Rattle.gg_net.specs.Net.{opening_net}
 use Rattle.gg_build.specs.plan.Built.{AreBuilt, IsGiven, body_start, flow_of, wires_of_plan}
 
--- the order of the plan's circuit that is found from the circuit alone
+-- the order of the plan's circuit, found from the circuit only
 abbrev pub circuit_order : Ordered → Request → Models → List ℕ
 circuit_order design request models = found_order (plan_circuit design request models)
 
--- the rows of the plan's circuit from a start on, on these columns, computed along its order
+-- the rows of the plan's circuit on these columns, from the request's start, computed along its order
 abbrev pub circuit_rows : Ordered → Request → Models → List (List ℕ) → ℕ → List (List ℕ)
 circuit_rows design request models columns n = rows_from (plan_circuit design request models) (circuit_order design request models) (plan_begin design request models (plan_start design request)) columns n
 
--- What the plan's network computes in its circuit's run on these columns.
+-- The flow of the plan's network, from its circuit's run on these columns.
 abbrev pub flow_along : Ordered → Request → Models → Plan → List (List ℕ) → ℕ → Flow
 flow_along design request models plan columns n = flow_of design request plan (plan_start design request) (circuit_rows design request models columns n)
 
--- ---- what a run is of
+-- ---- a run
 
--- The plan is that of a design and of a request without a fault for it. A channel that the request doesn't name may hold at most as many
--- tokens as a queue. The network of the plan can be run from a start for its sources' columns, up to cycle n: the flow is what the network
--- computes from there in the run of the plan's circuit, which is the reference circuit with the models of the bridges, on these columns of
--- its inputs.
+-- The network of the plan can be run from a start on its sources' columns, up to cycle n. It is a plan of a design and of a request without a fault
+-- for it. A channel that the request doesn't name may hold at most as many tokens as a queue. The rows are the run of the plan's circuit from the
+-- start on these columns of its inputs, and the flow is what the network computes in this run. The plan's circuit is the reference circuit with the
+-- models of the bridges.
 pub record IsToRunFrom (plan : Plan) (start : Start) (columns : List (List ℕ)) (n : ℕ) (flow : Flow) : Type 0 where
   pub design : Ordered
   pub request : Request
   pub models : Models
   -- the capacity of the channels that the request doesn't name
   pub default : ℕ
-  -- the run of the plan's circuit from the start on
+  -- the run of the plan's circuit from the start
   pub rows : List (List ℕ)
   pub given : IsGiven design request models default plan columns n start rows
   pub room : default ≤ capacity_limit
@@ -54,13 +54,13 @@ run_token {start = start} run s = plan_token run.design run.request start.state 
 
 -- ---- the network before its first step
 
--- A network is that of the plan before its first step from this start, with these tokens in its pipes, and with its cycles below n to do.
--- It has the plan's machines, each with its part of the start, and the plan's channels.
+-- The network is the plan's before its first step. It has the plan's machines, each with its part of this start, and the plan's channels, with these
+-- tokens in their pipes. It has to do its cycles below n.
 pub record IsOpeningFrom (plan : Plan) (start : Start) (token : ℕ → ℕ) (columns : List (List ℕ)) (n : ℕ) (net : Network) : Type 0 where
   pub machines : List Machine
   pub built : AreBuilt plan (body_start start) columns machines
   pub is : net ≡ opening_net machines (wires_of_plan token plan) n
 
--- A network is that of the plan of a design and a request before its first cycle, with zeros.
+-- The network is the plan's before its first cycle, with zeros, for a design and a request.
 abbrev pub IsOpeningOf : Ordered → Request → Plan → (columns : List (List ℕ)) → (n : ℕ) → Network → Type 0
 IsOpeningOf design request plan columns n net = IsOpeningFrom plan (plan_start design request) (plan_token design request (plan_start design request).state) columns n net

@@ -13,9 +13,9 @@ use std::alloc::{AllocError, Global};
 pub struct Begin {
     /// The cycle, which is at most 1,000,000.
     pub cycle: u64,
-    /// The state of the reference circuit. `None` stands for zeros.
+    /// The state of the reference circuit. `None` means zeros.
     pub state: Option<State>,
-    /// For each channel the token with which it opens, if it has a pipe. Behind the end of the list there are zeros.
+    /// For each channel the token that it opens with, if it has a pipe. After the end of the list there are zeros.
     pub tokens: Vec<u128>,
 }
 
@@ -45,7 +45,7 @@ fn registers_at(alloc: Global, held: &[u32], values: &[u128]) -> Result<Vec<u128
     Ok(own)
 }
 
-// A copy of what a memory holds. Behind the end there is an empty memory.
+// A copy of a memory's bank. After the end there is an empty memory.
 fn bank_of(alloc: Global, banks: &[Bank], memory: u32) -> Result<Bank, AllocError>
     ensures { IfOk result (λ own. own ≡ bank_at banks.now memory) }
 {
@@ -59,7 +59,7 @@ fn bank_of(alloc: Global, banks: &[Bank], memory: u32) -> Result<Bank, AllocErro
     }
 }
 
-// What these memories hold.
+// The banks of these memories.
 fn banks_at(alloc: Global, memories: &[u32], banks: &[Bank]) -> Result<Vec<Bank>, AllocError>
     ensures { IfOk result (λ own. own.items ≡ map (bank_at banks.now) memories.now) }
 {
@@ -71,7 +71,7 @@ fn banks_at(alloc: Global, memories: &[u32], banks: &[Bank]) -> Result<Vec<Bank>
     Ok(own)
 }
 
-// What a part has of a state.
+// The state of a part: its part of the whole state.
 //
 // # Errors
 //
@@ -84,7 +84,7 @@ pub(crate) fn part_of_state(alloc: Global, part: &Part, state: &State) -> Result
     Ok(State::of(registers, banks))
 }
 
-// The state in which a part begins.
+// The state that a part begins with.
 //
 // # Errors
 //

@@ -50,7 +50,7 @@ fn host_for(
     }
 }
 
-// Adds a machine to those of a host.
+// Adds a machine at the end of a host's machines. Returns its thread.
 fn join(host: u32, machine: u32, members: &mut Vec<Vec<u32>>) -> Result<u32, AllocError>
     requires known { host < length members.old.items }
     requires few { length (group_at (map (λ list. list.items) members.old.items) host) < 2 ^ 32 }

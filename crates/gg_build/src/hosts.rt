@@ -52,7 +52,7 @@ fn unit_of<'a>(
     Ok(unit)
 }
 
-// The host of the hub, or of a unit that is alone.
+// The host of the hub, or of a single unit.
 fn unit_host<'a, B: Bridge + Drop>(
     alloc: Global,
     part: &'a Part,
@@ -121,7 +121,7 @@ fn cut_host<'a, B: Bridge + Drop>(
     }
 }
 
-// A part of a listed memory's part, in which the memory is alone.
+// A part of a listed memory's part, with only the memory.
 fn alone_of(alloc: Global, part: &Part) -> Result<Part, AllocError>
     requires { IsMemoryPart part.now }
     ensures { IfOk result (λ alone. IsCutAgain part.now alone) }

@@ -16,7 +16,7 @@ use gg_node::{Host, Source, Tray};
 /// A host of machines of a plan, by their kind.
 #[derive(Drop)]
 pub enum Node<'a, B: Bridge + Drop> {
-    /// The hub, or a unit that is alone.
+    /// The hub, or a single unit.
     Unit(Unit<'a>),
     /// Units with one piece, a thread each.
     Shared(Shared<'a>),
@@ -38,28 +38,28 @@ impl<'a, B: Bridge + Drop> Node<'a, B> {
     {
         match self {
             Node::Unit(host) => {
-                // for the invariant alone
+                // for the invariant only
                 let _ = host.piece();
                 None
             }
             Node::Shared(host) => {
-                // for the invariant alone
+                // for the invariant only
                 let _ = host.piece();
                 None
             }
             Node::Memory(host) => {
-                // for the invariant alone
+                // for the invariant only
                 let _ = host.piece();
                 None
             }
             Node::Source(host) => {
-                // for the invariant alone
+                // for the invariant only
                 let _ = host.column();
                 None
             }
             Node::Tray(host) => host.value(cycle),
             Node::Bridge(host) => {
-                // for the invariant alone
+                // for the invariant only
                 let _ = host.ins();
                 None
             }

@@ -13,16 +13,28 @@ use gg_net::{Net, Shape, Streams};
 use gg_trace::Trace;
 use std::alloc::{AllocError, Global};
 
-/// The network of a plan before its first cycle. Its sources give the columns of a trace, and it has as many cycles to
-/// do as the trace has rows. Its hosts are those of [`placement_of`]: units that the plan puts onto one host share it, a thread each, and each
-/// other machine has a host of its own. The plan's bridges are taken out of those that are handed in, by their names; the others, and all
-/// of them if an allocation fails, are given up.
+/// Builds the network of a plan before its first cycle. Its sources give the columns of a trace, and it has a cycle to do for each row of the trace.
+/// Its hosts are the hosts of [`placement_of`]: units that the plan puts onto one host share it, a thread each, and each other machine has a host of
+/// its own. The plan's bridges are taken out of `bridges`, by their names. The others are dropped, and all of them if an allocation fails.
 ///
 /// Allocates all the memory that the network will use.
 ///
 /// # Errors
 ///
 /// Returns `AllocError` if an allocation fails.
+///
+/// # Examples
+///
+/// The plan has 6 machines, and channel 0 of its 5 channels is piped. The trace has 8 rows.
+///
+/// ```text
+/// let net = build::<B, Z>(alloc, &plan, &trace, bridges)?;
+/// net.machines()  // 6: net.cycle(m) is 0 for each machine m
+/// net.channels()  // 5
+/// net.end()       // 8
+/// net.newest(0)   // Some(0): a piped channel opens with the token 0
+/// net.newest(1)   // None: another channel opens without a token
+/// ```
 pub fn build<'a, B: Bridge + Send + Drop, Z: Streams>(
     alloc: Global,
     plan: &'a Plan,
@@ -42,8 +54,8 @@ pub fn build<'a, B: Bridge + Send + Drop, Z: Streams>(
     Ok(net)
 }
 
-/// The network of a plan before its first step from there. Its sources give the columns of a trace, from the cycle of `begin` on, and it
-/// has to do the cycles from there up to the trace's last row. Its hosts are those of [`placement_of`].
+/// Builds the network of a plan before its first step at `begin`. Its sources give the columns of a trace, starting at the cycle of `begin`, and it
+/// has to do the cycles from there up to the trace's last row. Its hosts are the hosts of [`placement_of`].
 ///
 /// Allocates all the memory that the network will use.
 ///

@@ -55,17 +55,17 @@ fn ports_at<B: Bridge + Drop>(
             Ok(ports)
         }
         Node::Unit(unit) => {
-            // for the invariant alone
+            // for the invariant only
             let _ = unit.piece();
             Ok(Vec::new(alloc))
         }
         Node::Shared(units) => {
-            // for the invariant alone
+            // for the invariant only
             let _ = units.piece();
             Ok(Vec::new(alloc))
         }
         Node::Source(source) => {
-            // for the invariant alone
+            // for the invariant only
             let _ = source.column();
             Ok(Vec::new(alloc))
         }
@@ -74,7 +74,7 @@ fn ports_at<B: Bridge + Drop>(
             Ok(Vec::new(alloc))
         }
         Node::Bridge(bridge) => {
-            // for the invariant alone
+            // for the invariant only
             let _ = bridge.ins();
             Ok(Vec::new(alloc))
         }

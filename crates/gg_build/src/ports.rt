@@ -46,7 +46,7 @@ fn add_writers(
     Ok(())
 }
 
-// Adds the ports of these readers and writers, in the order in which they are served.
+// Adds the ports of these readers and writers, in the order of serving.
 fn add_ports(
     alloc: Global,
     latency: Latency,

@@ -39,7 +39,7 @@ fn body_ratios(
     }
 }
 
-// The state in which a machine begins.
+// The state that a machine begins with.
 fn body_state(
     alloc: Global,
     body: &Body,
@@ -81,7 +81,7 @@ pub(crate) fn all_ratios(
     Ok(lists)
 }
 
-// For each of these machines of a plan the state in which it begins.
+// For each of these machines of a plan the state that it begins with.
 //
 // # Errors
 //

@@ -45,7 +45,7 @@ fn picked(alloc: Global, values: &[u32], places: &[u32]) -> Result<Ids, AllocErr
     Ok(Ids::from(list))
 }
 
-// The places of a unit's out-signals among those of a piece like its own.
+// The places of a unit's out-signals, among the out-signals of a piece like its own.
 fn outs_of(alloc: Global, _piece: &Piece, places: &[u32], body: &Body) -> Result<Ids, AllocError>
     requires formed { IsWellFormed _piece.now }
     requires places { IsNoted _piece.now.outs (replicate (length _piece.now.signals) 0) places.now }
@@ -61,7 +61,7 @@ fn outs_of(alloc: Global, _piece: &Piece, places: &[u32], body: &Body) -> Result
     }
 }
 
-// For each of these machines the places of its out-signals among those of a piece.
+// For each of these machines the places of its out-signals, among the out-signals of a piece.
 fn all_outs(
     alloc: Global,
     piece: &Piece,

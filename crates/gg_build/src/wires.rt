@@ -53,7 +53,7 @@ fn places_of(alloc: Global, machines: &[Machine], count: usize) -> Result<Places
     Ok(Places { outs, ins })
 }
 
-// The token that is in a channel at the start: if it has a pipe, the one at this place, and 0 behind the end.
+// The token that a channel opens with: if it has a pipe, the token at this place, or 0 after the end.
 fn opens_with(pipe: bool, tokens: &[u128], place: usize) -> Option<u128>
     ensures { result ≡ first_token pipe (value_at tokens.now place) }
 {

@@ -49,7 +49,7 @@ impl Ratio {
         self.m
     }
 
-    /// The number of base ticks in which it has `m` edges.
+    /// The number of base ticks for `m` edges.
     pub fn d(&self) -> u64
         ensures value { result ≡ self.now.d }
         ensures range { IsRatio self.now }

@@ -6,7 +6,7 @@ ghost use Rattle.gg_flat.specs.Clock.{edge};
 use crate::ratio::Ratio;
 use std::marker::Model;
 
-/// A clock that is asked tick by tick whether it has an edge. A contract sees its ratio and the number of ticks made.
+/// A clock that goes tick by tick. A contract sees its ratio and the number of ticks made.
 #[derive(Drop)]
 pub struct Ticker {
     ratio: Ratio,

@@ -28,13 +28,26 @@ use gg_part::part_formed;
 use gg_partfile::Request;
 use std::alloc::{AllocError, Global};
 
-/// The plan of a design, whose circuit keeps to its tree and has each register held once, and a request. `default_capacity` is the capacity of the channels that the
-/// request doesn't name. Each channel's capacity is from 1 to 4,096. `models` has the models of bridges that are known.
+/// The plan of a design and a request. The design's circuit keeps to its tree and has each register held once. `default_capacity` is the capacity of
+/// the channels that the request doesn't name. Each channel's capacity is from 1 to 4,096. `models` has the models of bridges that are known.
 ///
 /// # Errors
 ///
-/// Returns the request's first fault (gg_cut_plan's `first_fault_with`), exactly if it has one, or `NoMemory` if an allocation
-/// fails, or if the plan would have 2^32 machines.
+/// Returns the request's first fault (gg_cut_plan's `first_fault_with`), exactly if it has one, or `NoMemory` if an allocation fails, or if the plan
+/// would have 2^32 machines.
+///
+/// # Examples
+///
+/// ```
+/// // The top has the input x, the output y and the instance a. In a, a register is between the input i and the output o.
+/// // a.i is x, and y is a.o. The request has only the unit a, and no direct channels.
+/// let plan = cut(alloc, &design, &request, 2, &models)?;
+/// // Machines: 0 hub:, 1 a, 2 in:x, 3 out:y.
+/// // Channels: 0 x from in:x to hub:, 1 a.i from hub: to a, 2 a.o from a to hub:, 3 y from hub: to out:y.
+/// deps(&plan, 1); // [0]: a.i needs x
+/// deps(&plan, 2); // []: the register gives a.o
+/// deps(&plan, 3); // [2]: y needs a.o
+/// ```
 pub fn cut(
     alloc: Global,
     design: &Design,
@@ -95,7 +108,7 @@ fn channels_for(
     requires machines { AreDraftMachines draft.now machines.now }
     ensures { IfOk result (λ channels. AreDraftChannels draft.now machines.now channels.items) }
 {
-    // for the invariant alone
+    // for the invariant only
     let _ = draft.design.piece();
     part_formed();
     let wires: &[Wire] = &seats.wires;

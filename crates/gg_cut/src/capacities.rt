@@ -9,7 +9,7 @@ use gg_cut_parts::{filled, set_named};
 use gg_flat::Piece;
 use std::alloc::{AllocError, Global};
 
-// The capacity of a channel of each signal: the one that the request gives for its path, else the default.
+// The capacity of a channel of each signal: the request's for the signal's path, otherwise the default.
 //
 // # Errors
 //

@@ -18,8 +18,7 @@ use gg_cut_routes::piped_of;
 use gg_flat::Piece;
 use std::alloc::{AllocError, Global};
 
-// The channels of a draft, by their numbers, with the capacities and the pipes that the request asks for. Their ends and their
-// needs are given.
+// The channels of a draft, by their numbers, with the capacities and the pipes of the request. Their ends and their needs are given.
 //
 // # Errors
 //

@@ -61,7 +61,7 @@ pub(crate) fn draft_of<'a>(
     })
 }
 
-// Judges the channels, the pipes and the clocks of a plan whose entries have no fault.
+// Checks the channels, the pipes and the clocks of a plan. The entries of its request have no fault.
 fn judge_routed(
     alloc: Global,
     design: &Design,

@@ -120,8 +120,8 @@ fn heading_of(alloc: Global, places: &Places, number: usize) -> Result<Heading, 
     Ok(Heading { name, ins, outs })
 }
 
-// What a machine does, after the machines before it: by its number it has a part, or is a source, a tray or a bridge. `table` has 0
-// for each signal, before and after.
+// What a machine does, by its number and the earlier machines: it has a part, or is a source, a tray or a bridge. `table` has 0 for each signal,
+// before and after.
 fn body_at(
     alloc: Global,
     making: &Making,
@@ -180,7 +180,7 @@ fn bridge_at(
     Ok(body)
 }
 
-// What the hub, a unit or a listed memory does, after the machines before it.
+// What the hub, a unit or a listed memory does, by its number and the earlier machines.
 fn part_at(
     alloc: Global,
     making: &Making,
@@ -195,7 +195,7 @@ fn part_at(
     let draft = making.draft;
     let shares = draft.split.shares.as_slice();
     let before = &shares[number];
-    // for the invariant alone
+    // for the invariant only
     let _ = draft.design.piece();
     let _ = draft.design.order();
     let machine = MachineDraft {
@@ -224,7 +224,7 @@ fn part_body(
     requires first { first ≡ leader machine.now.draft.now.request.now.units machine.now.draft.now.request.now.share machine.now.number }
     ensures { IfOk result (λ body. IsNextBody machine.now.draft.now machine.now.domains.now machine.now.number machines.now body) }
 {
-    // for the invariant alone
+    // for the invariant only
     let _ = machine.draft.design.piece();
     let _ = machine.draft.design.order();
     units_stand_again();

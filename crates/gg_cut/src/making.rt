@@ -30,7 +30,7 @@ pub(crate) fn hub_signals(alloc: Global, draft: &Draft) -> Result<Vec<u32>, Allo
     requires { IsDraft draft.now }
     ensures { (any : Share) → IfOk result (λ hub. hub.items ≡ filter (stays_by draft.now.routed.wires draft.now.routed.gone) (slice_index_or draft.now.split.shares 0 any).globals) }
 {
-    // for the invariant alone
+    // for the invariant only
     let _ = draft.design.order();
     let shares = draft.split.shares.as_slice();
     let first = &shares[0];

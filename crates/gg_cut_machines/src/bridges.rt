@@ -15,7 +15,8 @@ use gg_flat::Piece;
 use gg_partfile::BridgeEntry;
 use std::alloc::{AllocError, Global};
 
-/// What the bridge of an entry does that takes and gives these channels. `table` has 0 for each signal, before and after.
+/// What the bridge of an entry does, if it takes and gives these channels. `table` has 0 for each signal, before and
+/// after.
 ///
 /// # Errors
 ///
@@ -59,7 +60,7 @@ fn model_copy(models: &Models, name: &Name) -> Result<Piece, AllocError>
     requires { Contains (model_names models.now) name.now }
     ensures { IfOk result (λ model. model_named models.now name.now ≡ Some model) }
 {
-    // for the invariant alone
+    // for the invariant only
     let _ = models.len();
     match models.find(name) {
         Some(place) => match models.piece(place) {

@@ -163,7 +163,7 @@ fn firsts_before(alloc: Global, leaders: &[u32]) -> Result<Vec<u32>, AllocError>
     Ok(before)
 }
 
-// 1 if a fact holds, else 0.
+// 1 if a fact holds, otherwise 0.
 pub(crate) fn one_if(holds: bool) -> u32
     ensures one { result ≡ (if holds then 1 else 0) }
     ensures small { result ≤ 1 }

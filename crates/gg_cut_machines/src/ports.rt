@@ -12,8 +12,8 @@ use gg_flat::Piece;
 use gg_partfile::BridgeEntry;
 use std::alloc::{AllocError, Global};
 
-// For each of these signals 0, or one more than the number of the first entry that sees the signal's path, or drives it.
-// From the place `count` on it is 0.
+// For each of these signals 0, or one more than the number of the first entry that sees the signal's path, or drives
+// it. It is 0 at the place `count` and after it.
 //
 // # Errors
 //

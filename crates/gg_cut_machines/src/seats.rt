@@ -110,7 +110,7 @@ fn starts_of(draft: &Draft, takers: &Takers) -> Starts
     ensures { AreStarts draft.now result }
 {
     let listed = &draft.listed;
-    // for the invariant alone
+    // for the invariant only
     let _ = draft.design.piece();
     let source = 1 + listed.units.as_slice().len() + listed.memories.as_slice().len();
     let tray = source + open_count(&takers.drivers);
@@ -134,7 +134,7 @@ fn open_count(takers: &[u32]) -> usize
     count
 }
 
-// The number of each machine, where the sources, the trays and the bridges begin so.
+// The number of each machine, if the sources, the trays and the bridges begin at `starts`.
 fn seat_numbers(
     alloc: Global,
     _draft: &Draft,
@@ -154,7 +154,7 @@ fn seat_numbers(
     Ok(numbers)
 }
 
-// Adds the number of the machine of each port: those that no bridge has are numbered from `own` on, the bridges from `bridge` on.
+// Adds the number of the machine of each port. The ports that no bridge has get numbers starting at `own`, the bridges numbers starting at `bridge`.
 fn push_seats(
     numbers: &mut Vec<u32>,
     takers: &[u32],
@@ -175,7 +175,7 @@ fn push_seats(
     Ok(())
 }
 
-// The number of the machine of a port: its own, or that of the bridge that has it.
+// The number of the machine of a port: its own, or the bridge's.
 fn seat_at(taker: u32, own: usize, bridge: usize) -> usize
     requires { bridge < 2 ^ 32 }
     ensures { result ≡ (if taker == 0 then own else bridge + (taker - 1)) }

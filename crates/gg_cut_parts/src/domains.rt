@@ -15,8 +15,8 @@ use gg_order::Design;
 use gg_part::Clocking;
 use std::alloc::{AllocError, Global};
 
-/// What the machines of a cut follow. Code that makes one has to ensure that it is so (`AreDomains` in `specs/inside/Domains`), as
-/// `domains_of` does.
+/// The clocks that the machines of a cut follow. Code that makes a `Domains` has to ensure `AreDomains` (`specs/inside/Domains`), as `domains_of`
+/// does.
 pub struct Domains {
     /// The clocks of the circuit that registers and ports follow.
     pub whole: Clocking,
@@ -66,7 +66,7 @@ impl Domains {
     }
 }
 
-// The instance whose Clock inputs a machine has.
+// The instance with the Clock inputs of a machine.
 fn home_of(listed: &Listed, machine: usize) -> u32
     ensures { result ≡ clock_home listed.now machine }
 {
@@ -79,7 +79,7 @@ fn home_of(listed: &Listed, machine: usize) -> u32
     }
 }
 
-/// What the machines of a cut follow.
+/// The clocks that the machines of a cut follow.
 ///
 /// # Errors
 ///

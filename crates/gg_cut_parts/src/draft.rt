@@ -9,8 +9,8 @@ use gg_cut_split::Split;
 use gg_order::Design;
 use gg_partfile::Request;
 
-/// A cut in the making: what is cut, as a request without a fault asks, what is listed of it, what each machine has before
-/// the routing, and the channels after it.
+/// A cut in the making: what is cut, by a request without a fault, what the request lists, what each machine has before the routing, and the channels
+/// after it.
 pub struct Draft<'a> {
     /// What is cut.
     pub design: &'a Design,

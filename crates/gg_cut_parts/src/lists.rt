@@ -57,7 +57,7 @@ pub fn set_named(piece: &Piece, path: &Name, number: u32, table: &mut Vec<u32>)
     ensures count { length table.new.items ≡ length table.old.items }
     ensures set { (s : ℕ) → s < length piece.now.signals → value_at table.new.items s ≡ (if bytes_eq path.now (path_at piece.now.paths s) then number else value_at table.old.items s) }
 {
-    // for the invariant alone
+    // for the invariant only
     let _ = piece.signal_count();
     match piece.find(path) {
         Some(signal) => table[signal as usize] = number,

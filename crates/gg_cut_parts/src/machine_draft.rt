@@ -8,7 +8,7 @@ use crate::draft::Draft;
 pub struct MachineDraft<'s, 'a> {
     pub draft: &'s Draft<'a>,
     pub domains: &'s Domains,
-    /// The channels that it takes, and those that it gives, ascending.
+    /// The channels that it takes, and the channels that it gives, ascending.
     pub ins: &'s [u32],
     pub outs: &'s [u32],
     /// The signals of the circuit that it makes or takes, in the order of evaluation.

@@ -23,8 +23,8 @@ use gg_flat_tree::ClockNumbers;
 use gg_part::Part;
 use std::alloc::{AllocError, Global};
 
-/// The part of a unit, from the part of the unit with the number `first`, which has the same with other numbers. The two pieces
-/// are one but for paths and how their out-signals are listed.
+/// The part of a unit, from the part of the unit with the number `first`, which has the same with other numbers. The two pieces are one, except for
+/// paths and for how their out-signals are listed.
 ///
 /// # Errors
 ///
@@ -45,7 +45,7 @@ pub fn moved_part(
 {
     let draft = machine.draft;
     let whole = draft.design.piece();
-    // for the invariant alone
+    // for the invariant only
     let _ = whole.signal_count();
     let _ = draft.design.order();
     let from = first_signal(draft, first);
@@ -77,7 +77,7 @@ fn first_signal(draft: &Draft, number: usize) -> u32
     draft.design.tree().instances()[unit as usize].first
 }
 
-// The numbers that stand as far behind `to` as these stand behind `from`.
+// These numbers, moved by the distance from `from` to `to`.
 fn moved_numbers(alloc: Global, numbers: &[u32], from: u32, to: u32) -> Result<Vec<u32>, AllocError>
     requires behind { All (λ s. from ≤ s) numbers.now }
     requires few { All (λ s. shifted from to s < 2 ^ 32) numbers.now }
@@ -92,8 +92,7 @@ fn moved_numbers(alloc: Global, numbers: &[u32], from: u32, to: u32) -> Result<V
 
 // ---- registers
 
-// For each register of a part the one that stands for it in another unit. `globals` has the signals that stand there
-// for the part's.
+// For each register of a part its counterpart in another unit. `globals` has the counterparts of the part's signals.
 fn held_again(
     alloc: Global,
     whole: &Piece,

@@ -34,7 +34,7 @@ pub(crate) fn moved_piece(
     requires outs { All (λ s. Contains globals.now s) outs.now }
     ensures { IfOk result (λ piece. IsMovedPiece whole.now other.now globals.now outs.now piece) }
 {
-    // for the invariant alone: few enough signals
+    // for the invariant only: few enough signals
     let _ = whole.signal_count();
     let mut piece = Piece::new(alloc);
     add_signals(alloc, whole, other, globals, &mut piece)?;
@@ -66,7 +66,7 @@ fn add_signals(
     ensures paths { OnOk result (piece.new.paths ≡ map (path_at whole.now.paths) globals.now) }
     ensures signals { OnOk result (piece.new.signals ≡ other.now.signals) }
 {
-    // for the invariant alone: few enough signals for a piece
+    // for the invariant only: few enough signals for a piece
     let _ = whole.signal_count();
     for place in 0..globals.len() {
         add_signal(alloc, whole, other, globals[place], place, piece)?;

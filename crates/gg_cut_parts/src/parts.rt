@@ -20,7 +20,7 @@ pub fn cut_part(alloc: Global, machine: &MachineDraft) -> Result<Part, AllocErro
     ensures timed { IfOk result (λ part. IsUnitTimed machine.now part) }
 {
     let draft = machine.draft;
-    // for the invariant alone
+    // for the invariant only
     let _ = draft.design.order();
     part_in_order();
     let ins = signals(alloc, draft.wires(), machine.ins)?;
@@ -38,7 +38,7 @@ pub fn cut_part(alloc: Global, machine: &MachineDraft) -> Result<Part, AllocErro
     Ok(part)
 }
 
-// The signals that channels are taken with.
+// The signals of channels, as their consumers take them.
 fn signals(alloc: Global, wires: &[Wire], channels: &[u32]) -> Result<Vec<u32>, AllocError>
     requires { All (λ channel. channel < length wires.now) channels.now }
     ensures { IfOk result (λ signals. signals.items ≡ signals_of wires.now channels.now) }
@@ -50,7 +50,7 @@ fn signals(alloc: Global, wires: &[Wire], channels: &[u32]) -> Result<Vec<u32>, 
     Ok(signals)
 }
 
-// The signals by which channels are given.
+// The signals that give the channels' values in their producers.
 //
 // # Errors
 //

@@ -6,7 +6,7 @@ ghost use Rattle.gg_part.specs.inside.Numbers.{ArePlaces};
 use crate::lists::{filled, picked};
 use std::alloc::{AllocError, Global};
 
-// Places of these numbers in a list, whose numbers are below `count`.
+// Places of these numbers in a list of numbers below `count`.
 //
 // # Errors
 //

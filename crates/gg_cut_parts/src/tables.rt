@@ -1,4 +1,4 @@
-//! The Clock inputs that instances follow inside of the units in which they lie.
+//! The Clock inputs that instances follow inside of their units.
 ghost use Rattle.std.specs.Prelude.{◌≡◌, ◌⊎◌, ◌↔◌, ℕ, ◌<◌, ◌≤◌, ◌^◌, [], Bool, Some, None, false, length, map, replicate, slice_index_or, All, IfOk, if◌then◌else◌};
 ghost use Rattle.gg_flat.specs.declared.piece.Driver.TheVariants.{Held};
 ghost use Rattle.gg_flat.specs.Circuit.{driver_at};
@@ -14,7 +14,7 @@ use gg_flat::{Driver, Piece};
 use gg_flat_tree::{ClockNumbers, Instance, MemoryInstance, Tree, clock_at, clocks_at};
 use std::alloc::{AllocError, Global};
 
-// As many numbered clocks.
+// This many numbered clocks.
 //
 // # Errors
 //
@@ -40,7 +40,7 @@ fn numbered_for(alloc: Global, inputs: &[Option<u32>]) -> Result<ClockNumbers, A
     numbered(alloc, inputs.len() as u32)
 }
 
-// What the Clock inputs of an instance follow, given what those of the instances before it follow.
+// What the Clock inputs of an instance follow, from what the Clock inputs of the instances before it follow.
 fn inner_of(
     alloc: Global,
     before: &[ClockNumbers],
@@ -64,8 +64,7 @@ fn inner_of(
     }
 }
 
-// For each instance, in order, the Clock inputs of its home that its Clock inputs follow. `homes` tells which instances are
-// homes.
+// For each instance, in order, the Clock inputs of its home that its Clock inputs follow. `homes` marks the instances that are homes.
 //
 // # Errors
 //
@@ -105,8 +104,7 @@ fn paint(places: &mut [u32], first: u32, end: u32, place: u32)
     }
 }
 
-// For each of `count` signals the place of the last instance that has it: the innermost one, since what an instance holds comes
-// behind it.
+// For each of `count` signals the place of the last instance that has it: the innermost one, since what an instance holds comes after it.
 //
 // # Errors
 //

@@ -117,7 +117,7 @@ fn takers_in(alloc: Global, channels: &[Channel]) -> Result<Vec<u32>, AllocError
     Ok(takers)
 }
 
-// This many numbers from the first one on.
+// This many numbers, starting at `first`.
 //
 // # Errors
 //
@@ -139,7 +139,7 @@ pub(crate) fn numbers_from(
 
 // ---- tables
 
-// A table with `count` numbers: each value at its place, and else 0.
+// A table with `count` numbers: each value at its place, otherwise 0.
 fn table_of(
     alloc: Global,
     count: usize,
@@ -175,7 +175,7 @@ fn fill(table: &mut [u32], places: &[u32], values: &[u32])
     }
 }
 
-// The machine in which each signal's driver stands.
+// The machine with each signal's driver.
 fn makers_of(alloc: Global, owned: &Owned) -> Result<Vec<u32>, AllocError>
     requires known { All (λ w. w.signal < length owned.now.signals) owned.now.wires }
     requires once { AllPairs (λ v w. v.signal ≢ w.signal) owned.now.wires }
@@ -197,7 +197,7 @@ fn mark_makers(makers: &mut [u32], wires: &[Wire])
     }
 }
 
-// The machine that holds each register, by the machine in which each signal's driver stands: the hub, if no signal holds it.
+// The machine that holds each register, from the machines with the signals' drivers: the hub, if no signal holds it.
 fn holders_of(alloc: Global, one: &Piece, makers: &[u32]) -> Result<Vec<u32>, AllocError>
     requires known { (s r : ℕ) → s < length one.now.signals → driver_at one.now s ≡ Held r → r < length one.now.registers }
     requires few { length one.now.signals < 2 ^ 32 }

@@ -6,8 +6,8 @@ ghost use Rattle.gg_order.specs.Design.{Ordered, IsDesign};
 ghost use Rattle.gg_cut_pipes.specs.inside.CanPipe.{CanPipe};
 ghost use Rattle.gg_cut_pipes.specs.inside.Tables.{piped_signals};
 
-/// Numbers of 32 bits suffice for what `pipe` numbers. The plan has at most 33,025 machines. The registers and the pipes are together fewer
-/// than 2^32, since each register is that of a signal.
+/// Numbers of 32 bits suffice for what `pipe` numbers. The plan has at most 33,025 machines. The registers and the pipes are together fewer than
+/// 2^32, since each register is held by a signal.
 pub fn numbers_suffice()
     ensures machines { (design : Ordered) (plan : Plan) → IsDesign design → CanPipe design plan → machine_count design.circuit plan.listed ≤ 33025 }
     ensures registers { (design : Ordered) (plan : Plan) → CanPipe design plan → length design.circuit.registers + length (piped_signals (length design.circuit.signals) plan.channels) < 2 ^ 32 }

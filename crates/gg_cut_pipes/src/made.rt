@@ -109,7 +109,7 @@ fn add_signal(
               ++ seen_signal (views_by tables.now) place (slice_index_or one.now.signals place any) ∷ [];
         }) }
 {
-    // for the invariant alone
+    // for the invariant only
     let _ = one.signal_count();
     let number = place as u32;
     let path = path_behind(alloc, "", one, number)?;
@@ -137,7 +137,7 @@ fn signal_of(
     })
 }
 
-// A word with the path of a signal behind it.
+// A word followed by the path of a signal.
 fn path_behind(alloc: Global, word: &str, one: &Piece, signal: u32) -> Result<Name, AllocError>
     requires { signal < length one.now.paths }
     ensures { IfOk result (λ name. name ≡ word.now ++ path_at one.now.paths signal) }
@@ -158,7 +158,7 @@ fn refused(error: AddError) -> AllocError
     }
 }
 
-// Adds the signals of the pipes, behind all others.
+// Adds the signals of the pipes, after all others.
 fn add_pipes(alloc: Global, one: &Piece, pipes: &[u32], piece: &mut Piece) -> Result<(), AllocError>
     requires known { All (λ c. c < length one.now.signals) pipes.now }
     requires count { length piece.old.signals ≡ length one.now.signals }
@@ -172,7 +172,7 @@ fn add_pipes(alloc: Global, one: &Piece, pipes: &[u32], piece: &mut Piece) -> Re
           ++ pipe_signals one.now.signals (length one.now.registers) pipes.now;
     }) }
 {
-    // for the invariant alone
+    // for the invariant only
     let _ = one.signal_count();
     let first = one.registers().len() as u32;
     for place in 0..pipes.len() {
@@ -199,7 +199,7 @@ fn add_pipe(
           signals = piece.old.signals ++ pipe_signal register (slice_index_or one.now.signals signal any) ∷ [];
         }) }
 {
-    // for the invariant alone
+    // for the invariant only
     let _ = one.signal_count();
     let path = path_behind(alloc, "pipe:", one, signal)?;
     let ty = one.signals()[signal as usize].ty;

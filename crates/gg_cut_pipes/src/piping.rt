@@ -13,9 +13,8 @@ use gg_flat::Piece;
 use gg_order::{Design, Order};
 use std::alloc::{AllocError, Global};
 
-/// The reference circuit of a plan: the design, and for each piped channel a register that takes the channel's value in each tick.
-/// Where the channel's consumer names the channel, it names the register in its place. The tree is that of the design. The pipes
-/// are the first in the order.
+/// The reference circuit of a plan: the design, and for each piped channel a register that takes the channel's value in each tick. Where the
+/// channel's consumer names the channel, it names the register in its place. The tree is the design's. The pipes are the first in the order.
 ///
 /// # Errors
 ///
@@ -28,7 +27,7 @@ pub fn pipe(alloc: Global, design: &Design, plan: &Plan) -> Result<Design, Alloc
 {
     // their contracts say that the design is one
     let count = design.piece().signals().len();
-    // for the invariant alone
+    // for the invariant only
     let _ = design.order();
     let pipes = pipes_in(alloc, count, plan.channels.as_slice())?;
     let circuit = circuit_of(alloc, design, plan, &pipes)?;
@@ -48,7 +47,7 @@ fn circuit_of(
     requires pipes { pipes.now ≡ piped_signals (length design.now.circuit.signals) plan.now.channels }
     ensures { IfOk result (λ circuit. (can : CanPipe design.now plan.now) → circuit ≡ plan_reference design.now can.request) }
 {
-    // for the invariant alone: also, few enough memories
+    // for the invariant only: also, few enough memories
     let _ = design.order();
     let _ = design.tree().memory_count();
     let piece = design.piece();

@@ -6,9 +6,8 @@ ghost use Rattle.gg_cut_pipes.specs.inside.Tables.{kept_in, seen_in};
 use gg_bits::Ids;
 use gg_flat::{Renames, number_at};
 
-// Who names what: for each signal the machine in which its driver stands, for each register the machine that holds it, and for
-// each memory the machine that has it. For each signal whose channel is piped, the machine that takes the channel, and the
-// number of the pipe; else 0.
+// Who names what: for each signal the machine with its driver, for each register the machine that holds it, and for each memory the machine that has
+// it. For each signal with a piped channel, the machine that takes the channel, and the number of the pipe; otherwise 0.
 pub(crate) struct Tables {
     // By the signals.
     pub(crate) makers: Ids,
@@ -40,7 +39,7 @@ impl Drop for Tables {
 }
 
 impl Tables {
-    // The number by which the consumer of a signal's channel sees the signal: that of the pipe, or its own.
+    // The number that the consumer of a signal's channel sees the signal by: the pipe's, or its own.
     pub(crate) fn kept(&self, signal: u32) -> u32
         ensures { result ≡ kept_in self.now signal }
     {
@@ -48,7 +47,7 @@ impl Tables {
         if pipe == 0 { signal } else { pipe }
     }
 
-    // The numbers by which a machine sees signals.
+    // The numbers that a machine sees signals by.
     pub(crate) fn by(&self, machine: u32) -> Seen
         ensures tables { result.tables.now ≡ self.now }
         ensures machine { result.machine ≡ machine }
@@ -59,7 +58,7 @@ impl Tables {
         }
     }
 
-    // The number by which a machine sees a signal.
+    // The number that a machine sees a signal by.
     pub(crate) fn seen(&self, machine: u32, signal: u32) -> u32
         ensures { result ≡ seen_in self.now machine signal }
     {
@@ -71,7 +70,7 @@ impl Tables {
     }
 }
 
-// The numbers by which a machine sees signals; all else keeps its own.
+// The numbers that a machine sees signals by. Everything that isn't a signal keeps its number.
 #[derive(Clone, Copy)]
 pub(crate) struct Seen<'a> {
     // Who names what.

@@ -6,8 +6,8 @@ use Rattle.gg_flat.specs.Circuit.{FlatCircuit}
 use Rattle.gg_cut_plan.specs.declared.plan.Body.{Body}
 use Rattle.gg_cut_plan.specs.declared.plan.Body.TheVariants.{Cut, Memory, Source, Tray, Bridge}
 
--- Two pieces are one, but for their paths and for how their out-signals are listed: both list the same signals, but maybe in another
--- order, or a signal more often.
+-- Two pieces are one, except for their paths and for how their out-signals are listed: both list the same signals, but maybe in another order, or a
+-- signal more often.
 pub record IsAlike (one other : FlatCircuit) : Type 0 where
   pub signals : one.signals ≡ other.signals
   pub clocks : one.clocks ≡ other.clocks
@@ -16,7 +16,7 @@ pub record IsAlike (one other : FlatCircuit) : Type 0 where
   pub ins : one.ins ≡ other.ins
   pub outs : (s : ℕ) → Contains one.outs s ↔ Contains other.outs s
 
--- a body is a unit whose piece is like this one
+-- a body is a unit with a piece like this one
 abbrev pub IsLike : FlatCircuit → Body → Type 0
 IsLike one (Cut part) = IsAlike one part.piece
 IsLike one (Memory part) = ⊥
@@ -24,7 +24,7 @@ IsLike one (Source place) = ⊥
 IsLike one Tray = ⊥
 IsLike one (Bridge bridge) = ⊥
 
--- two bodies are units whose pieces are alike
+-- two bodies are units with pieces that are alike
 abbrev pub AreAlike : Body → Body → Type 0
 AreAlike (Cut part) other = IsLike part.piece other
 AreAlike (Memory part) other = ⊥

@@ -40,7 +40,7 @@ is_of_shape (Some a) b = same_shape a b
 abbrev pub port_shape : FlatCircuit → List ℕ → Option Shape
 port_shape circuit port = option_map (shape_at (signal_shapes circuit)) (place_of circuit.paths port)
 
--- whether these are the shapes of the ports, as many and in order
+-- whether these are the shapes of the ports, equally many and in order
 abbrev pub fit_ports : FlatCircuit → List (List ℕ) → List Shape → Bool
 fit_ports circuit [] [] = true
 fit_ports circuit [] (b ∷ bs) = false
@@ -86,21 +86,21 @@ unfit_bridge circuit models entry = if fits_model circuit entry (model_named mod
 
 -- ---- all entries
 
--- what the entries before list
+-- what the earlier entries list
 pub record Before : Type 0 where
   pub names : List (List ℕ)
   pub sees : List (List ℕ)
   pub drives : List (List ℕ)
 
--- what stands before the first entry
+-- what is listed before the first entry
 abbrev pub none_before : Before
 none_before = record { names = []; sees = []; drives = [] }
 
--- what stands before the next entry, which also has what this entry lists
+-- what is listed before the next entry: also what this entry lists
 abbrev pub before_next : Before → BridgeEntry → Before
 before_next before entry = record { names = before.names ++ entry.name ∷ []; sees = before.sees ++ entry.sees; drives = before.drives ++ entry.drives }
 
--- Those of an entry: its name, its ports, and whether they fit its model. `outs` are the top's outputs.
+-- The faults of an entry: its name, its ports, and whether they fit its model. `outs` are the top's outputs.
 abbrev pub own_faults : FlatCircuit → (outs : List ℕ) → Models → Before → BridgeEntry → List (Option CutFault)
 own_faults circuit outs models before entry =
     option_map UnknownBridge (unknown_bridge (model_names models) before.names entry.name)
@@ -109,11 +109,11 @@ own_faults circuit outs models before entry =
     ∷ option_map UnfitBridge (unfit_bridge circuit models entry)
     ∷ []
 
--- those of all entries, entry by entry
+-- the faults of all entries, entry by entry
 abbrev pub faults_after : FlatCircuit → (outs : List ℕ) → Models → Before → List BridgeEntry → List (Option CutFault)
 faults_after circuit outs models before [] = []
 faults_after circuit outs models before (entry ∷ entries) = own_faults circuit outs models before entry ++ faults_after circuit outs models (before_next before entry) entries
 
--- The faults of the bridges of a request. The top's outputs are the first of the circuit's out-signals, its stops are behind them.
+-- The faults of the bridges of a request. The top's outputs are the first of the circuit's out-signals, and its stops come after them.
 abbrev pub bridge_faults : FlatCircuit → (stops : ℕ) → Models → List BridgeEntry → List (Option CutFault)
 bridge_faults circuit stops models entries = faults_after circuit (take (length circuit.outs - stops) circuit.outs) models none_before entries

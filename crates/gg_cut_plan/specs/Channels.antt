@@ -58,7 +58,7 @@ field_wires circuit tree units number j =
 abbrev pub source_wires : ℕ → ℕ → List Wire
 source_wires number signal = wire signal number 0 ∷ []
 
--- a tray takes a top output from the machine that the signal belongs to
+-- a tray takes a top output from the signal's owner
 abbrev pub tray_wires : FlatCircuit → InstanceTree → Listed → ℕ → ℕ → List Wire
 tray_wires circuit tree listed number signal = wire signal (owner_of circuit tree listed signal) number ∷ []
 
@@ -75,6 +75,6 @@ wires_of circuit tree listed =
 abbrev pub channel_names : FlatCircuit → List ℕ → List (List ℕ)
 channel_names circuit signals = map (path_at circuit.paths) signals
 
--- the capacity that the request gives for a name, else the default
+-- the capacity that the request gives for a name, otherwise the default
 abbrev pub capacity_of : List (List ℕ × ℕ) → ℕ → List ℕ → ℕ
 capacity_of capacities default name = unwrap_or (option_map (λ pair. pair.1) (find (λ pair. bytes_eq pair.0 name) capacities)) default

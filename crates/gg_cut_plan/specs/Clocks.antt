@@ -1,4 +1,4 @@
--- The ratios of a design's clocks: those that a request gives, by the names of the top's Clock inputs.
+-- The ratios of a design's clocks: the ratios that a request gives, by the names of the top's Clock inputs.
 -- Source: FIRRTL Specification, "Clock" types and "Modules" (ports of the top); FireSim's clock domains, whose ratios to a base clock
 -- are rational. That names stand for ratios, and their range, are this program's own.
 use Rattle.std.specs.Prelude.{ℕ, List, Option, Bool, ◌&&◌, map, find, option_map, unwrap_or, bytes_eq, nat_le}
@@ -8,7 +8,7 @@ use Rattle.gg_flat_tree.specs.Tree.{InstanceTree}
 use Rattle.gg_part.specs.PartRun.{part_ratios}
 use Rattle.gg_partfile.specs.declared.request.Request.{Request}
 
--- the most base ticks in which a ratio counts edges
+-- the greatest number of base ticks of a ratio
 abbrev pub most_ticks : ℕ
 most_ticks = 65535
 
@@ -24,7 +24,7 @@ every_tick = record { m = 1; d = 1 }
 abbrev pub ratio_with : ℕ × ℕ → Ratio
 ratio_with numbers = record { m = numbers.0; d = numbers.1 }
 
--- the ratio of the clock with a name: the one that is given, else an edge in each tick
+-- the ratio of the clock with a name: the given one, otherwise an edge in each tick
 abbrev pub ratio_of : List (List ℕ × (ℕ × ℕ)) → List ℕ → Ratio
 ratio_of clocks name = unwrap_or (option_map (λ pair. ratio_with pair.1) (find (λ pair. bytes_eq pair.0 name) clocks)) every_tick
 
@@ -36,7 +36,6 @@ ratios_of tree request = map (ratio_of request.clocks) tree.clocks
 abbrev pub stop_clocks : InstanceTree → List (Option ℕ)
 stop_clocks tree = map (λ stop. clock_at (top_clocks tree stop.instance) stop.clock) tree.stops
 
--- the ratios of the stops' clocks, where the circuit's clocks have these; without ratios there is none, and each clock has an edge in
--- each tick
+-- the ratios of the stops' clocks, if the circuit's clocks have these ratios; without ratios there is none, and each clock has an edge in each tick
 abbrev pub stop_ratios : InstanceTree → List Ratio → List Ratio
 stop_ratios tree ratios = part_ratios (stop_clocks tree) ratios

@@ -1,7 +1,7 @@
--- Direct channels: what the hub only copies goes from its producer to its consumer. The origin of a copy is the in-channel of
--- the hub at the end of a chain of bare references. An out-channel of the hub is direct if its driver is such a reference,
--- a source or a unit gives the origin, and nothing in the hub names the channel. Then the origin's producer gives it. An
--- in-channel leaves, with its copies, if a direct channel has it as its origin and the hub needs it for nothing else.
+-- Direct channels: what the hub only copies goes from its producer to its consumer. The origin of a copy is the in-channel of the hub at the end of a
+-- chain of bare references. An out-channel of the hub is direct if its driver is such a reference, a source or a unit gives the origin, and nothing
+-- in the hub names the channel. Then the origin's producer gives it. An in-channel leaves, with its copies, if a direct channel has it as its origin
+-- and nothing that the hub keeps needs it.
 -- Source: MEMOCODE 2009 (a fork: one out-signal of a node on several channels); this program's profile for which
 -- channels are direct.
 use Rattle.gg_order.specs.Found.{line_names}
@@ -53,7 +53,7 @@ driver_names circuit (Computed line) = line_names line
 
 -- ---- bare references
 
--- the signal that a node refers to, if it does nothing else
+-- the signal that a node refers to, if the node is a bare reference
 abbrev pub bare_op : Op → Option ℕ
 bare_op (Ref s) = Some s
 bare_op (Literal value) = None
@@ -62,13 +62,13 @@ bare_op (Two op i j) = None
 bare_op (Fix op i n m) = None
 bare_op (Mux c i j) = None
 
--- the signal to which a line is a bare reference: its only node refers to the signal
+-- the signal of a line that is a bare reference: its only node refers to the signal
 abbrev pub bare_line : List Node → Option ℕ
 bare_line [] = None
 bare_line (node ∷ []) = bare_op node.op
 bare_line (node ∷ next ∷ rest) = None
 
--- the signal to which a driver is a bare reference
+-- the signal of a driver that is a bare reference
 abbrev pub bare_of : Driver → Option ℕ
 bare_of (Input place) = None
 bare_of (Held register) = None
@@ -81,21 +81,20 @@ abbrev pub if_wide : FlatCircuit → ℕ → Option ℕ → Option ℕ
 if_wide circuit s None = None
 if_wide circuit s (Some t) = if (shape_at (signal_shapes circuit) t).width == (shape_at (signal_shapes circuit) s).width then Some t else None
 
--- The signal to which the driver of signal s is a bare reference, if it is as wide as s. It is of the same kind too, since a
+-- The signal that the driver of signal s refers to, if it is a bare reference and the signal is as wide as s. It is of the same kind too, since a
 -- driver has the kind of its signal in a circuit that is well formed.
 abbrev pub copied : FlatCircuit → ℕ → Option ℕ
 copied circuit s = if_wide circuit s (bare_of (driver_at circuit s))
 
 -- ---- routing
 
--- What the routing looks at: the circuit, the machine that each signal belongs to, the channels before, the fields of the
--- hub's memories, the signals of the stops, and which machines are listed memories. `piped` tells the signals whose channels
--- have a token in them at the start: the hub takes such a signal a cycle later than its producer gives it, so it is no
--- origin. `driven` tells the inputs that a bridge drives: a bridge is no producer of an origin. `direct` tells whether channels are to
--- be direct at all.
+-- What the routing looks at: the circuit, the owner of each signal, the channels before, the fields of the hub's memories, the signals of the stops,
+-- and which machines are listed memories. `piped` says which signals have a channel with a token in it at the start: the hub takes such a signal a
+-- cycle later than its producer gives it, so it is no origin. `driven` says which inputs a bridge drives: a bridge is no producer of an origin.
+-- `direct` says whether channels are to be direct at all.
 pub record Hub : Type 0 where
   pub circuit : FlatCircuit
-  -- the machine that a signal belongs to; the hub is machine 0
+  -- the owner of a signal; the hub is machine 0
   pub owner : ℕ → ℕ
   -- the channels before the routing
   pub base : List Wire
@@ -159,8 +158,8 @@ if_plain hub (Some x) = if hub.memory (giver hub x) then None else Some x
 abbrev pub may_be_direct : Hub → Wire → Bool
 may_be_direct hub w = (hub.direct && (w.producer == 0)) && not (list_any (λ t. w.signal == t) (named_by hub (made hub) ++ hub.stops))
 
--- The in-channel that is given in place of an out-channel of the hub, if the out-channel is direct: its driver is a bare
--- reference to an in-channel or a copy, whose origin no memory gives.
+-- The in-channel that is given in place of an out-channel of the hub, if the out-channel is direct: its driver is a bare reference to an in-channel
+-- or a copy, and no memory gives the origin.
 abbrev pub direct_of : Hub → Wire → Option ℕ
 direct_of hub w = if may_be_direct hub w then if_plain hub (option_and_then (origin hub) (copied hub.circuit w.signal)) else None
 
@@ -190,7 +189,7 @@ left_by hub (Some x) = has_left hub x
 abbrev pub is_gone : Hub → ℕ → Bool
 is_gone hub s = left_by hub (origin hub s)
 
--- a channel in whose place in-channel x is given: it goes from the producer of x to its own consumer
+-- a channel with in-channel x in its place, if there is one: it goes from the producer of x to the channel's own consumer
 abbrev pub route_by : Hub → Wire → Option ℕ → Wire
 route_by hub w None = w
 route_by hub w (Some x) = record { signal = w.signal; given = x; producer = giver hub x; consumer = w.consumer }
@@ -224,9 +223,9 @@ hub_of circuit tree listed piped driven direct =
       direct = direct;
     }
 
--- ---- what a request asks for
+-- ---- the channels of a request
 
--- The request asks for a pipe in the channel of signal s.
+-- The request lists the channel of signal s as a pipe.
 abbrev pub is_piped : FlatCircuit → Request → ℕ → Bool
 is_piped circuit request s = is_among request.pipe (path_at circuit.paths s)
 
@@ -246,8 +245,8 @@ is_driven circuit request s = is_input (driver_at circuit s) && is_among (all_dr
 abbrev pub plan_hub : FlatCircuit → InstanceTree → Request → Hub
 plan_hub circuit tree request = hub_of circuit tree (listed_of tree request) (is_piped circuit request) (is_driven circuit request) request.direct
 
--- The channels of the plan, between the machines of the cut: those of the cut, routed if the request asks for direct channels. The
--- machines have the numbers that they have without bridges.
+-- The channels of the plan, between the machines of the cut: the cut's channels, routed if the request has direct channels. The machines have the
+-- numbers that they have without bridges.
 abbrev pub plan_routes : FlatCircuit → InstanceTree → Request → List Wire
 plan_routes circuit tree request = routes (plan_hub circuit tree request)
 

@@ -21,7 +21,7 @@ use Rattle.gg_cut_plan.specs.Bridges.{Models, bridge_faults}
 
 -- ---- entries that name nothing
 
--- the first of these that isn't an instance path
+-- the first of these paths that isn't an instance's
 abbrev pub unknown_unit : InstanceTree → List (List ℕ) → Option (List ℕ)
 unknown_unit tree units = find (λ path. not (is_instance_path tree path)) units
 
@@ -59,11 +59,11 @@ repeated paths = first_clash same_path [] paths
 abbrev pub module_of : InstanceTree → List ℕ → ℕ
 module_of tree path = (instance_at tree (instance_of tree path)).«module»
 
--- the first unit of one list whose module isn't that of the list's first
+-- the first unit of one list with another module than the list's first unit
 abbrev pub other_in : InstanceTree → List (List ℕ) → Option (List ℕ)
 other_in tree group = find (λ path. not (module_of tree path == module_of tree (path_at group 0))) group
 
--- the first entry of a list of `share` whose module isn't that of the list's first entry
+-- the first entry of a list of `share` with another module than the list's first entry
 abbrev pub other_module : InstanceTree → List (List (List ℕ)) → Option (List ℕ)
 other_module tree [] = None
 other_module tree (group ∷ share) = or_else (other_in tree group) (other_module tree share)
@@ -94,7 +94,7 @@ lacks_counterpart memories group (Some rest) = list_any (λ unit. not (is_among 
 abbrev pub lacks_in : List (List ℕ) → List ℕ → List (List ℕ) → Bool
 lacks_in memories path group = list_any (λ unit. lacks_counterpart memories group (rest_behind unit path)) group
 
--- the first listed memory that is in a shared unit and whose counterpart in another unit of the list isn't listed
+-- the first listed memory that is in a shared unit and has an unlisted counterpart in another unit of the list
 abbrev pub unmatched : List (List ℕ) → List (List (List ℕ)) → Option (List ℕ)
 unmatched memories share = find (λ path. list_any (lacks_in memories path) share) memories
 
@@ -108,17 +108,17 @@ unknown_channel names capacities = option_map (λ pair. pair.0) (find (λ pair. 
 abbrev pub out_of_range : List (List ℕ × ℕ) → Option (List ℕ × ℕ)
 out_of_range capacities = find (λ pair. (pair.1 == 0) || nat_lt capacity_limit pair.1) capacities
 
--- the same as a fault
+-- the first capacity that is out of range, as a fault
 abbrev pub range_fault : List (List ℕ × ℕ) → Option CutFault
 range_fault capacities = option_map (λ pair. OutOfRange pair.0 pair.1) (out_of_range capacities)
 
 -- ---- clocks
 
--- the first name that isn't one of these, and the first ratio that is none
+-- the first name of a ratio that isn't among the names
 abbrev pub unknown_clock : List (List ℕ) → List (List ℕ × (ℕ × ℕ)) → Option (List ℕ)
 unknown_clock names clocks = option_map (λ pair. pair.0) (find (λ pair. not (is_among names pair.0)) clocks)
 
--- the first clock with a ratio that is none, as a fault
+-- the first clock with numbers that are no ratio, as a fault
 abbrev pub ratio_fault : List (List ℕ × (ℕ × ℕ)) → Option CutFault
 ratio_fault clocks = option_map (λ pair. WrongRatio pair.0 pair.1.0 pair.1.1) (find (λ pair. not (is_ratio pair.1.0 pair.1.1)) clocks)
 
@@ -134,7 +134,7 @@ too_many_channels signals = if nat_lt most_channels (length signals) then Some (
 
 -- ---- the first of all faults
 
--- those of the entries: entries that name nothing, that occur twice, lists of units with different modules; memories
+-- the faults of the entries: entries that name nothing, that occur twice, lists of units with different modules; memories
 abbrev pub entry_faults : InstanceTree → Request → List (Option CutFault)
 entry_faults tree request =
     option_map UnknownUnit (unknown_unit tree request.units)
@@ -147,7 +147,7 @@ entry_faults tree request =
     ∷ option_map Unmatched (unmatched request.memories request.share)
     ∷ []
 
--- those of the channels: capacities, and the numbers of units and of channels
+-- the faults of the channels: capacities, and the numbers of units and of channels
 abbrev pub channel_faults : FlatCircuit → Request → Listed → List ℕ → List (Option CutFault)
 channel_faults circuit request listed signals =
     option_map UnknownChannel (unknown_channel (channel_names circuit signals) request.capacity)
@@ -156,43 +156,41 @@ channel_faults circuit request listed signals =
     ∷ option_map TooManyChannels (too_many_channels signals)
     ∷ []
 
--- those of the pipes: names that aren't those of channels, and names that occur twice
+-- the faults of the pipes: names that no channel has, and names that occur twice
 abbrev pub pipe_faults : FlatCircuit → Request → List ℕ → List (Option CutFault)
 pipe_faults circuit request signals =
     option_map UnknownPipe (find (λ name. not (is_among (channel_names circuit signals) name)) request.pipe)
     ∷ option_map DoubledPipe (repeated request.pipe)
     ∷ []
 
--- those of the clocks: names that aren't those of Clock inputs of the top, and ratios that are none
+-- the faults of the clocks: names that no Clock input of the top has, and numbers that are no ratio
 abbrev pub clock_faults : InstanceTree → Request → List (Option CutFault)
 clock_faults tree request =
     option_map UnknownClock (unknown_clock tree.clocks request.clocks)
     ∷ ratio_fault request.clocks
     ∷ []
 
--- those behind the entries, in the order in which they are told
+-- the faults of the channels, the pipes and the clocks, in the order of reporting
 abbrev pub later_faults : FlatCircuit → InstanceTree → Request → List (Option CutFault)
 later_faults circuit tree request =
     channel_faults circuit request (listed_of tree request) (plan_signals circuit tree request)
     ++ (pipe_faults circuit request (plan_signals circuit tree request)
     ++ clock_faults tree request)
 
--- all of them, in the order of their numbers
+-- all faults except the faults of bridges, in the order of their numbers
 abbrev pub faults_in : FlatCircuit → InstanceTree → Request → List (Option CutFault)
 faults_in circuit tree request = entry_faults tree request ++ later_faults circuit tree request
 
--- the first of all faults but those of bridges, if there is one
+-- the first of all faults except the faults of bridges, if there is one
 abbrev pub fault_in : FlatCircuit → InstanceTree → Request → Option CutFault
 fault_in circuit tree request = first_of (faults_in circuit tree request)
 
--- The fault of a request for a design, its bridges aside: the one with the least number. Among faults with the same number it is the
--- first in `units`, then in `share`, then in `memories`. For capacities and clocks it is the one with the least name, for pipes the
--- first.
+-- The fault of a request for a design, its bridges aside: the fault with the least number. Among faults with the same number it is the first in
+-- `units`, then in `share`, then in `memories`. For capacities and clocks it is the fault with the least name, for pipes the first.
 abbrev pub first_fault : Ordered → Request → Option CutFault
 first_fault design request = fault_in design.circuit design.tree request
 
--- The same, and behind it the faults of the bridges, where these models are known: the first entry's first, which is the one with the
--- least number.
+-- `first_fault`, otherwise the first fault of the bridges, where these models are known: in the first entry with a fault it has the least number.
 abbrev pub first_fault_with : Ordered → Models → Request → Option CutFault
 first_fault_with design models request = or_else (first_fault design request) (first_of (bridge_faults design.circuit (length design.tree.stops) models request.bridges))
 
@@ -216,13 +214,13 @@ fault_text (WrongPort name) = codes "P15 " ++ name
 fault_text (UnfitBridge name) = codes "P16 " ++ name
 fault_text NoMemory = codes "out of memory"
 
--- ---- what a call that judges returns
+-- ---- what a check returns
 
 -- the error is this fault, or `NoMemory`
 abbrev pub IsTold : Option CutFault → CutFault → Type 0
 IsTold fault cause = (cause ≡ NoMemory) ⊎ (fault ≡ Some cause)
 
--- Ok exactly if there is no fault, else the fault; `NoMemory` implies nothing
+-- Ok exactly if there is no fault, otherwise the fault; `NoMemory` implies nothing
 abbrev pub Tells : {A : Type 0} → Option CutFault → Result A CutFault → Type 0
 Tells fault (Ok answer) = fault ≡ None
 Tells fault (Err cause) = IsTold fault cause

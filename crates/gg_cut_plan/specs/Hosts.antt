@@ -22,8 +22,7 @@ abbrev pub leader_in : List (List ℕ) → ℕ → Option (List (List ℕ)) → 
 leader_in units machine None = machine
 leader_in units machine (Some group) = least_machine units group machine
 
--- the first machine of a machine's host: the least of those that share it by a list of `share`, else the machine
--- itself
+-- the first machine of a machine's host: the least of the machines in its list of `share`, otherwise the machine itself
 abbrev pub leader : List (List ℕ) → List (List (List ℕ)) → ℕ → ℕ
 leader units share machine = leader_in units machine (group_of units share machine)
 

@@ -1,5 +1,4 @@
--- What a request lists, by places in the tree of instances: its units and its memories. Also which instance is in
--- which.
+-- What a request lists, by places in the tree of instances: its units and its memories. Also which instances contain which.
 -- Source: ICCAD 2019 (instances and memories of a target that are marked become models of their own); FIRRTL
 -- Specification, "Instances" and "Memories" for what an instance holds.
 use Rattle.std.specs.Prelude.{ℕ, zero, suc, ◌+◌, List, [], ◌∷◌, Bool, true, false, ◌||◌, ◌&&◌, ◌==◌, if◌then◌else◌, Option, Some, None, length, map, filter, option_map, unwrap_or, is_some, bytes_eq, nat_lt, nat_le}
@@ -17,7 +16,7 @@ use Rattle.gg_partfile.specs.declared.request.Request.{Request}
 abbrev pub is_among : List (List ℕ) → List ℕ → Bool
 is_among paths path = list_any (bytes_eq path) paths
 
--- the first place at which a test holds
+-- the place of the first item that passes a test
 abbrev pub first_place : {A : Type 0} → (A → Bool) → List A → Option ℕ
 first_place test [] = None
 first_place test (x ∷ xs) = if test x then Some 0 else option_map suc (first_place test xs)
@@ -32,11 +31,11 @@ is_lower None = false
 is_lower (Some zero) = false
 is_lower (Some (suc k)) = true
 
--- whether a path is that of an instance below the top
+-- whether a path is an instance's, below the top
 abbrev pub is_instance_path : InstanceTree → List ℕ → Bool
 is_instance_path tree path = is_lower (place_of tree.paths path)
 
--- whether a path is that of a memory
+-- whether a path is a memory's
 abbrev pub is_memory_path : InstanceTree → List ℕ → Bool
 is_memory_path tree path = is_some (place_of tree.memory_paths path)
 
@@ -44,7 +43,7 @@ is_memory_path tree path = is_some (place_of tree.memory_paths path)
 abbrev pub instance_of : InstanceTree → List ℕ → ℕ
 instance_of tree path = unwrap_or (place_of tree.paths path) 0
 
--- ---- which instance is in which
+-- ---- which instances contain which
 
 -- whether a test holds of the parent, if there is one
 abbrev pub of_parent : (ℕ → Bool) → Option ℕ → Bool
@@ -78,7 +77,7 @@ abbrev pub unit_or_hub : Option ℕ → ℕ
 unit_or_hub None = 0
 unit_or_hub (Some u) = unit_number u
 
--- the machine that an instance belongs to: the unit that it is in, else the hub
+-- the machine that an instance belongs to: the unit that it is in, otherwise the hub
 abbrev pub owner_of_instance : InstanceTree → List ℕ → ℕ → ℕ
 owner_of_instance tree units k = unit_or_hub (first_place (λ unit. lies tree k unit) units)
 
@@ -90,19 +89,17 @@ has_signal tree s k = nat_le (instance_at tree k).first s && nat_lt s (instance_
 abbrev pub has_field : FlatCircuit → InstanceTree → ℕ → ℕ → Bool
 has_field circuit tree s j = list_any (λ t. t == s) (memory_fields circuit (memory_at tree j).memory)
 
--- the machine of the listed memory that has a signal as a field, by its place among the listed ones; else another
--- machine
+-- the machine of the listed memory at a place, if there is one; otherwise another machine
 abbrev pub memory_or : ℕ → ℕ → Option ℕ → ℕ
 memory_or units other None = other
 memory_or units other (Some j) = memory_after units + j
 
--- The machine that a signal belongs to: the listed memory that has it as a field, else the unit that has it, else the
--- hub.
+-- The owner of a signal: the listed memory that has it as a field, otherwise the unit that has it, otherwise the hub.
 abbrev pub owner_of : FlatCircuit → InstanceTree → Listed → ℕ → ℕ
 owner_of circuit tree listed s =
     memory_or (length listed.units) (unit_or_hub (first_place (has_signal tree s) listed.units)) (first_place (has_field circuit tree s) listed.memories)
 
--- the machine that the memory at a place of the tree belongs to: its own if it is listed, else its instance's
+-- the owner of the memory at a place of the tree: its own machine if it is listed, otherwise its instance's
 abbrev pub memory_owner : InstanceTree → Listed → ℕ → ℕ
 memory_owner tree listed place =
     memory_or (length listed.units) (owner_of_instance tree listed.units (memory_at tree place).instance) (first_place (λ j. j == place) listed.memories)

@@ -6,9 +6,9 @@ use Rattle.std.specs.Prelude.{ℕ, suc, ◌+◌, Bool, ◌&&◌, length, nat_le,
 use Rattle.gg_flat.specs.Circuit.{FlatCircuit}
 use Rattle.gg_cut_plan.specs.declared.listed.Listed.{Listed}
 
--- ---- the number of a unit by its place; and the first number of each kind, behind these many machines of the kinds before
+-- ---- the number of a unit by its place; and the first number of each kind, after these many machines of the earlier kinds
 
--- the units are behind the hub, which is machine 0
+-- the units come after the hub, which is machine 0
 abbrev pub unit_number : (place : ℕ) → ℕ
 unit_number place = suc place
 
@@ -16,15 +16,15 @@ unit_number place = suc place
 abbrev pub first_unit : ℕ
 first_unit = 1
 
--- the first listed memory, behind the hub and the units
+-- the first listed memory, after the hub and the units
 abbrev pub memory_after : (units : ℕ) → ℕ
 memory_after units = suc units
 
--- the first source, behind the units and the memories
+-- the first source, after the units and the memories
 abbrev pub source_after : (units memories : ℕ) → ℕ
 source_after units memories = memory_after units + memories
 
--- the first tray, behind the sources, one for each top input
+-- the first tray, after the sources, one for each top input
 abbrev pub tray_after : (units memories ins : ℕ) → ℕ
 tray_after units memories ins = source_after units memories + ins
 
@@ -34,11 +34,11 @@ tray_after units memories ins = source_after units memories + ins
 abbrev pub first_memory : Listed → ℕ
 first_memory listed = memory_after (length listed.units)
 
--- its first source
+-- the first source of a cut
 abbrev pub first_source : Listed → ℕ
 first_source listed = source_after (length listed.units) (length listed.memories)
 
--- its first tray
+-- the first tray of a cut
 abbrev pub first_tray : FlatCircuit → Listed → ℕ
 first_tray circuit listed = tray_after (length listed.units) (length listed.memories) (length circuit.ins)
 

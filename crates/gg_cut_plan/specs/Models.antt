@@ -1,5 +1,5 @@
--- Named models: what a contract sees of `Models`, the pairs of a name and a flat circuit in the order in which they
--- were added.
+-- Named models: what a contract sees of `Models`, the pairs of a name and a flat circuit in the order of the calls of
+-- `add`.
 -- Source: ICCAD 2019 (bridges: models in the host's own code that stand at a target's ports).
 use Rattle.std.specs.Prelude.{ℕ, List, map}
 use Rattle.gg_flat.specs.Circuit.{FlatCircuit}

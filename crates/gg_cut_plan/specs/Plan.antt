@@ -52,7 +52,7 @@ channels_from wires m = filter (λ c. (wire_at wires c).producer == m) (range_wi
 abbrev pub signals_of : List Wire → List ℕ → List ℕ
 signals_of wires channels = map (λ c. (wire_at wires c).signal) channels
 
--- the signals by which channels' producers give their values
+-- the signals that give the channels' values in their producers
 abbrev pub givens_of : List Wire → List ℕ → List ℕ
 givens_of wires channels = map (λ c. (wire_at wires c).given) channels
 
@@ -68,7 +68,7 @@ Takes wires m s = Contains (signals_of wires (channels_to wires m)) s
 
 -- memory k of the circuit belongs to machine m
 pub record HasMemory (tree : InstanceTree) (listed : Listed) (m k : ℕ) : Type 0 where
-  -- its place among the memories of the tree
+  -- the memory's place among the memories of the tree
   pub place : ℕ
   pub known : place < length tree.memories
   pub is : (memory_at tree place).memory ≡ k
@@ -79,7 +79,7 @@ pub record HasMemory (tree : InstanceTree) (listed : Listed) (m k : ℕ) : Type 
 abbrev pub MakesBy : Hub → ℕ → ℕ → Type 0
 MakesBy hub m s = ((s < length hub.circuit.signals) × (hub.owner s ≡ m) × IsInner hub.base s × (is_gone hub s ≡ false)) ⊎ Contains (givens_of (routes hub) (channels_from (routes hub) m)) s
 
--- the instance whose Clock inputs a machine has: a unit's own one, and the top for the hub and for the listed memories
+-- the instance with the Clock inputs of a machine: a unit's own one, and the top for the hub and for the listed memories
 abbrev pub clock_home : Listed → ℕ → ℕ
 clock_home listed m = slice_index_or (0 ∷ listed.units) m 0
 
@@ -87,9 +87,9 @@ clock_home listed m = slice_index_or (0 ∷ listed.units) m 0
 abbrev pub machine_clocks : InstanceTree → Listed → ℕ → List (Option ℕ)
 machine_clocks tree listed m = top_clocks tree (clock_home listed m)
 
--- A machine's piece: exactly the signals that it makes or takes, in an order of evaluation, exactly the registers that those hold
--- which it doesn't take, and the memories that belong to it. The signals that it takes and those by which it gives, in the order
--- of its channels, are its in-signals and its out-signals. Its clocks are the Clock inputs of a unit, or those of the top.
+-- A machine's piece: exactly the signals that it makes or takes, in an order of evaluation, exactly the registers of the signals that it doesn't
+-- take, and the memories that belong to it. In the order of its channels, the signals that it takes are its in-signals, and the signals that give its
+-- channels' values are its out-signals. Its clocks are the Clock inputs of a unit, or the top's.
 pub record IsCutPart (design : Ordered) (listed : Listed) (hub : Hub) (m : ℕ) (part : Part) : Type 0 where
   pub is : IsPart design.circuit part.piece part.globals part.held part.memories part.clocks
   pub clocks : part.clocks ≡ machine_clocks design.tree listed m
@@ -109,7 +109,7 @@ IsCutBody design listed hub m (Source place) = (place < length design.circuit.in
 IsCutBody design listed hub m Tray = first_tray design.circuit listed ≤ m
 IsCutBody design listed hub m (Bridge bridge) = ⊥
 
--- the place of a port among those that an entry lists; 0 if it doesn't list it
+-- the place of a port in an entry's list; 0 if it isn't there
 abbrev pub port_place : List (List ℕ) → List ℕ → ℕ
 port_place ports name = unwrap_or (place_of ports name) 0
 
@@ -126,8 +126,8 @@ pub record IsBridgeBody (design : Ordered) (request : Request) (models : Models)
   pub ins : bridge.ins ≡ map (λ c. port_place (entry_at request.bridges k).sees (path_at design.circuit.paths (wire_at wires c).signal)) (channels_to wires m)
   pub outs : bridge.outs ≡ map (λ c. port_place (entry_at request.bridges k).drives (path_at design.circuit.paths (wire_at wires c).signal)) (channels_from wires m)
 
--- What machine m of the plan is, by its number: the hub, a unit or a listed memory of the cut; the source of a column of the trace, which is
--- that of the top input at a place among those that no bridge drives; a tray; or a bridge.
+-- What machine m of the plan is, by its number: the hub, a unit or a listed memory of the cut; the source of a top input, by its place among the
+-- inputs that no bridge drives, which are the columns of the trace; a tray; or a bridge.
 abbrev pub IsBody : Ordered → Request → Models → Listed → Hub → ℕ → Body → Type 0
 IsBody design request models listed hub m (Cut part) = IsCutBody design listed hub m (Cut part)
 IsBody design request models listed hub m (Memory part) = IsCutBody design listed hub m (Memory part)
@@ -139,7 +139,7 @@ IsBody design request models listed hub m (Bridge bridge) =
 
 -- ---- machines
 
--- the names of the plan's trays, and of its machines, in their order
+-- the names of the plan's trays, in their order
 abbrev pub open_tray_names : Ordered → Request → List (List ℕ)
 open_tray_names design request =
     map (λ s. codes "out:" ++ path_at design.circuit.paths s) (open_outs design.circuit (output_count design) request)
@@ -161,7 +161,7 @@ pub record IsMachine (design : Ordered) (request : Request) (models : Models) (l
   -- machines have one host only if one list of `share` has their units
   pub host : machine.host ≡ host_of request.units request.share m
   pub body : IsBody design request models listed hub m machine.body
-  -- the channels that it takes, and those that it gives, in the order of the plan's channels
+  -- the channels that it takes, and the channels that it gives, in the order of the plan's channels
   pub ins : machine.ins ≡ channels_to (plan_wires design.circuit design.tree request) m
   pub outs : machine.outs ≡ channels_from (plan_wires design.circuit design.tree request) m
 
@@ -169,7 +169,7 @@ pub record IsMachine (design : Ordered) (request : Request) (models : Models) (l
 
 -- An out-signal of a part needs channel c: the channel is at an in-signal that the out-signal reaches by reads.
 pub record IsNeed (part : Part) (channels : List ℕ) (out c : ℕ) : Type 0 where
-  -- the place of the in-signal, and so of its channel among those that the part takes
+  -- the place of the in-signal, and of its channel in `channels`
   pub place : ℕ
   pub known : place < length part.piece.ins
   pub is : value_at channels place ≡ c
@@ -179,7 +179,7 @@ pub record IsNeed (part : Part) (channels : List ℕ) (out c : ℕ) : Type 0 whe
 abbrev pub AreNeedsOf : Part → List ℕ → ℕ → List ℕ → Type 0
 AreNeedsOf part channels out needs = (c : ℕ) → Contains needs c ↔ IsNeed part channels out c
 
--- The needs of a channel that this machine gives by signal s: those of that out-signal. A source's channel and a bridge's need none.
+-- The needs of a channel that this machine gives by signal s: the needs of that out-signal. A source's channel and a bridge's need none.
 abbrev pub NeedsIn : Body → List ℕ → ℕ → List ℕ → Type 0
 NeedsIn (Cut part) channels s needs = (out : ℕ) → out < length part.globals → value_at part.globals out ≡ s → AreNeedsOf part channels out needs
 NeedsIn (Memory part) channels s needs = (out : ℕ) → out < length part.globals → value_at part.globals out ≡ s → AreNeedsOf part channels out needs
@@ -187,25 +187,25 @@ NeedsIn (Source place) channels s needs = needs ≡ []
 NeedsIn Tray channels s needs = needs ≡ []
 NeedsIn (Bridge bridge) channels s needs = needs ≡ []
 
--- channel c of the plan; `piped` tells the signals whose channels have a token in them at the start
+-- channel c of the plan; `piped` says which signals have a channel with a token in it at the start
 pub record IsChannel (design : Ordered) (capacity : List ℕ → ℕ) (piped : ℕ → Bool) (machines : List Machine) (w : Wire) (channel : Channel) : Type 0 where
   pub signal : channel.signal ≡ w.signal
   pub name : channel.name ≡ path_at design.circuit.paths w.signal
   pub type : shape channel.ty ≡ shape_at (signal_shapes design.circuit) w.signal
   pub producer : channel.producer ≡ w.producer
   pub consumer : channel.consumer ≡ w.consumer
-  -- the capacity that the request gives for its name, else the default
+  -- the capacity that the request gives for its name, otherwise the default
   pub bound : channel.capacity ≡ capacity (path_at design.circuit.paths w.signal)
   pub pipe : channel.pipe ≡ piped w.signal
   pub ascending : AllPairs (λ a b. a < b) channel.needs
-  -- what the signal needs by which its producer gives the value
+  -- the needs of the signal that gives the channel's value in its producer
   pub needs : (any : Machine) → NeedsIn (slice_index_or machines w.producer any).body (slice_index_or machines w.producer any).ins w.given channel.needs
 
 -- ---- the plan
 
--- The plan of a design, a request, the models that are handed in, and the capacity of the channels that the request doesn't name. Its
--- ratios are those of the circuit's clocks. Two machines have one host only if they are units with one piece, whose clocks may follow
--- different clocks of the circuit. All machines have numbers of 32 bits.
+-- The plan of a design, a request, the models that are handed in, and the capacity of the channels that the request doesn't name. Its ratios are the
+-- ratios of the circuit's clocks. Two machines have one host only if they are units with one piece. Their clocks may follow different clocks of the
+-- circuit. All machines have numbers of 32 bits.
 pub record IsPlan (design : Ordered) (request : Request) (models : Models) (default : ℕ) (plan : Plan) : Type 0 where
   pub listed : plan.listed ≡ listed_of design.tree request
   pub ratios : plan.ratios ≡ ratios_of design.tree request

@@ -1,6 +1,6 @@
--- The machines of a plan with bridges. The plan without bridges has a source for each input and a tray for each output, behind all
--- other machines. A bridge takes the place of the sources of what it drives and of the trays of what it sees. The machines that are
--- left keep their order, and the bridges are behind them.
+-- The machines of a plan with bridges. The plan without bridges has a source for each input and a tray for each output, after all other machines. A
+-- bridge takes the place of the sources of what it drives and of the trays of what it sees. The machines that are left keep their order, and the
+-- bridges come after them.
 -- Source: ICCAD 2019 (bridges: models in the host's own code that stand at a target's ports).
 use Rattle.std.specs.Prelude.{ℕ, ◌+◌, ◌-◌, List, length, take, filter, not, Bool, if◌then◌else◌, nat_lt, Option, None, is_none, map}
 use Rattle.gg_bits.specs.Lists.{number_or, count_below}
@@ -39,11 +39,11 @@ undriven b p = is_none (b.driver p)
 abbrev pub unseen : Bridges → ℕ → Bool
 unseen b p = is_none (b.viewer p)
 
--- the number of the first tray that is left, behind the sources that are left
+-- the number of the first tray that is left, after the sources that are left
 abbrev pub first_kept_tray : Bridges → ℕ
 first_kept_tray b = b.first + count_below (undriven b) b.ins
 
--- the number of the first bridge, behind the trays that are left
+-- the number of the first bridge, after the trays that are left
 abbrev pub first_bridge : Bridges → ℕ
 first_bridge b = first_kept_tray b + count_below (unseen b) b.outs
 
@@ -63,7 +63,7 @@ keeper_of b p = number_or (first_bridge b) (first_kept_tray b + count_below (uns
 abbrev pub seat_of : Bridges → ℕ → ℕ
 seat_of b m = if nat_lt m b.first then m else if nat_lt m (b.first + b.ins) then giver_of b (m - b.first) else keeper_of b (m - (b.first + b.ins))
 
--- the channels, at their machines' new numbers
+-- a channel, at its machines' new numbers
 abbrev pub seated_wire : Bridges → Wire → Wire
 seated_wire b w = record w { producer = seat_of b w.producer; consumer = seat_of b w.consumer }
 
@@ -77,8 +77,8 @@ seated b wires = map (seated_wire b) wires
 abbrev pub lister : (BridgeEntry → List (List ℕ)) → List BridgeEntry → List ℕ → Option ℕ
 lister ports entries path = first_place (λ entry. is_among (ports entry) path) entries
 
--- The bridges of these entries at a circuit's ports. Its first out-signals are outputs, the others stops. An entry whose port isn't
--- one has no part in it.
+-- The bridges of these entries at a circuit's ports. Its first out-signals are outputs, the others stops. An entry's name that no port has is left
+-- out.
 abbrev pub bridges_of : FlatCircuit → (outputs : ℕ) → Listed → List BridgeEntry → Bridges
 bridges_of circuit outputs listed entries =
     record {
@@ -90,13 +90,13 @@ bridges_of circuit outputs listed entries =
       viewer = λ p. if nat_lt p outputs then lister (λ entry. entry.sees) entries (path_at circuit.paths (value_at circuit.outs p)) else None;
     }
 
--- ---- the plan's
+-- ---- the bridges of the plan
 
--- how many out-signals of the circuit are outputs: the stops are behind them
+-- how many out-signals of the circuit are outputs; the stops come after them
 abbrev pub output_count : Ordered → ℕ
 output_count design = length design.circuit.outs - length design.tree.stops
 
--- the bridges of a request: the outputs that they may see are the out-signals but for the stops, which are as many as the tree has
+-- the bridges of a request; the outputs that they may see are the out-signals before the stops
 abbrev pub plan_bridges : FlatCircuit → InstanceTree → Request → Bridges
 plan_bridges circuit tree request = bridges_of circuit (length circuit.outs - length tree.stops) (listed_of tree request) request.bridges
 
@@ -110,6 +110,6 @@ plan_wires circuit tree request = seated (plan_bridges circuit tree request) (pl
 abbrev pub open_ins : FlatCircuit → Request → List ℕ
 open_ins circuit request = filter (λ s. not (is_among (all_driven request.bridges) (path_at circuit.paths s))) circuit.ins
 
--- the top outputs that no bridge sees; the top's first out-signals, so many, are outputs
+-- the top outputs that no bridge sees; the first `outputs` out-signals of the top are outputs
 abbrev pub open_outs : FlatCircuit → (outputs : ℕ) → Request → List ℕ
 open_outs circuit outputs request = filter (λ s. not (is_among (all_seen request.bridges) (path_at circuit.paths s))) (take outputs circuit.outs)

@@ -16,16 +16,16 @@ pub record AreRows (circuit : FlatCircuit) (start : Start) (columns : List (List
   pub before : (t s : ℕ) → t < start.cycle → value_at (row_at rows t) s ≡ 0
   pub run : IsRunFrom circuit start columns (since start.cycle end) (drop start.cycle rows)
 
--- a model's start, beside a circuit's: its cycle, with zeros
+-- the start of a model in a circuit with this start: the same cycle, with zeros
 abbrev pub model_start : FlatCircuit → Start → Start
 model_start model start = record { cycle = start.cycle; state = opening model; ratios = [] }
 
--- The values that the consumer of a channel takes, by cycle, if its producer gives these: in a piped channel they come a cycle later,
--- and the token comes in the cycle with which all begins.
+-- The values that the consumer of a channel takes, by cycle, if its producer gives these: in a piped channel they come a cycle later, and the token
+-- comes in cycle `begin`.
 abbrev pub stream : (begin token : ℕ) → Bool → List ℕ → List ℕ
 stream begin token piped values = if piped then replicate begin 0 ++ token ∷ drop begin values else values
 
--- the values that the consumers of the channels take, from those that the producers give; `token` has the token of each signal's pipe
+-- the values that the consumers of the channels take, if the producers give these; `token` has the token of each signal's pipe
 abbrev pub streams : (begin : ℕ) → (token : ℕ → ℕ) → List Channel → List (List ℕ) → List (List ℕ)
 streams begin token [] lists = []
 streams begin token (channel ∷ channels) [] = []

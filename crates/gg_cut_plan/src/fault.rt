@@ -7,20 +7,20 @@ use std::alloc::AllocError;
 use std::error::Error;
 use std::fmt;
 
-/// Why a request doesn't fit a design, in the order in which faults are reported.
+/// Why a request doesn't fit a design. Faults are reported in the order of these variants.
 #[derive(Debug, Drop)]
 pub enum CutFault {
     /// An entry of `units` that isn't an instance path, or of `share` that isn't in `units`.
     UnknownUnit(Name),
     /// An entry that equals an earlier one of the same key, or a unit that holds an earlier unit or is in one.
     Doubled(Name),
-    /// An entry of a list of `share` whose module isn't that of the list's first entry.
+    /// An entry of a list of `share` with another module than the list's first entry.
     OtherModule(Name),
     /// An entry of `memories` that isn't the path of a memory.
     UnknownMemory(Name),
-    /// A listed memory in a shared unit, whose counterpart in another unit of the list isn't listed.
+    /// A listed memory in a shared unit with an unlisted counterpart in another unit of the list.
     Unmatched(Name),
-    /// A name in `capacity` that isn't that of a channel.
+    /// A name in `capacity` that no channel has.
     UnknownChannel(Name),
     /// A capacity of 0 or above 4,096, with its channel's name.
     OutOfRange(Name, u64),
@@ -28,19 +28,19 @@ pub enum CutFault {
     TooManyUnits(u64),
     /// The number of channels, if it is above 16,384.
     TooManyChannels(u64),
-    /// A name in `pipe` that isn't that of a channel.
+    /// A name in `pipe` that no channel has.
     UnknownPipe(Name),
     /// A name in `pipe` that equals an earlier one.
     DoubledPipe(Name),
-    /// A name in `clocks` that isn't that of a Clock input of the top.
+    /// A name in `clocks` that no Clock input of the top has.
     UnknownClock(Name),
-    /// A ratio `m`, `d` in `clocks` for which `1 <= m <= d <= 65535` doesn't hold, with its clock's name.
+    /// A ratio `m`, `d` in `clocks` that breaks `1 <= m <= d <= 65535`, with its clock's name.
     WrongRatio(Name, u64, u64),
     /// The name of a bridge that isn't known, or that occurs twice.
     UnknownBridge(Name),
     /// A port of a bridge that isn't a port of the top of the right direction, or that is listed twice.
     WrongPort(Name),
-    /// The name of a bridge whose ports don't fit its model.
+    /// The name of a bridge with ports that don't fit its model.
     UnfitBridge(Name),
     /// An allocation failed.
     NoMemory,

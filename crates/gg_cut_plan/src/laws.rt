@@ -7,7 +7,7 @@ ghost use Rattle.gg_cut_plan.specs.declared.wires.Wire.{Wire};
 ghost use Rattle.gg_cut_plan.specs.Channels.{wires_of};
 ghost use Rattle.gg_cut_plan.specs.inside.Channels.{channel_signals};
 
-/// The channels, with their machines, carry exactly the signals by which channels are counted and named, in the same
+/// The channels, with their machines, carry exactly the signals that channels are counted and named by, in the same
 /// order.
 pub fn channels_agree()
     ensures { (circuit : FlatCircuit) (tree : InstanceTree) (listed : Listed) → map (λ (w : Wire). w.signal) (wires_of circuit tree listed) ≡ channel_signals circuit tree listed }

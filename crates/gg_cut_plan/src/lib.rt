@@ -1,4 +1,4 @@
-//! What a request for a cut asks for, which faults it may have, and what the plan of a cut is.
+//! What a request for a cut lists, which faults it may have, and what the plan of a cut is.
 //!
 //! A request lists instances (units), lists of units that share a host, memories, capacities of channels, channels that are
 //! pipes, and ratios of clocks, and says whether channels are direct. The definitions in `specs/` say:
@@ -13,11 +13,10 @@
 //!
 //! The crate promises:
 //!
-//! - `part_ratios` returns the ratios of clocks that follow those of the circuit, and `stop_ratios` those of the clocks that stops
-//!   follow;
-//! - a [`Numbering`] tells the number of each machine, and what the machine with a number is;
-//! - `owners_of` gives each instance its machine: the unit that the instance is in, else the hub;
-//! - the channels carry exactly the signals by which they are counted and named (`channels_agree`).
+//! - `part_ratios` returns the ratios of clocks that follow a circuit's clocks, and `stop_ratios` the ratios of the clocks that stops follow;
+//! - a [`Numbering`] returns the number of each machine, and what the machine with a number is;
+//! - `owners_of` gives each instance its machine: the unit that the instance is in, otherwise the hub;
+//! - the channels carry exactly the signals that they are counted and named by (`channels_agree`).
 //!
 //! gg_cut_rules finds the first fault of a request.
 #![tactic(auto)]

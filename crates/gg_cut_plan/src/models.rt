@@ -9,8 +9,8 @@ use indexmap::IndexMap;
 use std::alloc::Global;
 use std::marker::Model;
 
-/// Named models: flat circuits that say how what stands outside a circuit behaves. No two have the same name. A
-/// contract sees them in the order in which they were added, each as a pair: its name, as bytes, and its `FlatCircuit`.
+/// Named models: flat circuits that say how something outside of a circuit behaves. No two have the same name. A
+/// contract sees them in the order of the calls of `add`, each as a pair: its name, as bytes, and its `FlatCircuit`.
 pub struct Models {
     pieces: IndexMap<Name, Piece>,
 }

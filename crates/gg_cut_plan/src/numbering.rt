@@ -8,8 +8,8 @@ use crate::listed::Listed;
 use gg_flat::Piece;
 use std::marker::Model;
 
-/// How many machines of each kind a cut has, and so which number each of them has: first the hub, then the units, the listed
-/// memories, a source for each top input and a tray for each top output. There are fewer than 2^32. A contract sees the counts.
+/// How many machines of each kind a cut has, and thereby which number each of them has: first the hub, then the units, the listed memories, a source
+/// for each top input and a tray for each top output. There are fewer than 2^32. A contract sees the counts.
 #[derive(Clone, Copy)]
 pub struct Numbering {
     units: u32,
@@ -18,7 +18,7 @@ pub struct Numbering {
     outs: u32,
 }
 
-/// What a machine is: the hub, or a unit, a listed memory, a source or a tray by its place among those of its kind.
+/// What a machine is: the hub, or a unit, a listed memory, a source or a tray, by its place in its kind.
 #[derive(Clone, Copy, PartialEq, Eq)]
 pub enum Role {
     Hub,
@@ -60,7 +60,7 @@ impl Numbering {
         requires { place < self.now.units }
         ensures { result ≡ unit_number place }
     {
-        // from the number behind the last unit so many back
+        // counted back from the number after the last unit
         let memory = 1 + self.units;
         memory - (self.units - place as u32)
     }

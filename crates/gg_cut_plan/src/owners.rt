@@ -18,7 +18,7 @@ pub fn parent_of(tree: &Tree, place: u32) -> Option<u32>
     tree.instances()[place as usize].parent
 }
 
-/// The machines of the instances, by their places: that of the unit that an instance is in, else the hub. Units are
+/// The machines of the instances, by their places: the unit that an instance is in, otherwise the hub. Units are
 /// instances, and in the tree each instance comes after its parent.
 ///
 /// # Errors

@@ -11,9 +11,9 @@ pub struct BridgeBody {
     pub name: Name,
     /// Its model.
     pub model: Piece,
-    /// For each channel that it takes the place of the port among those that it sees.
+    /// For each channel that it takes, the place of the port among the ports that it sees.
     pub ins: Ids,
-    /// For each channel that it gives the place of the port among those that it drives.
+    /// For each channel that it gives, the place of the port among the ports that it drives.
     pub outs: Ids,
 }
 
@@ -54,7 +54,7 @@ pub struct Machine {
     pub name: Name,
     /// The number of its host.
     pub host: u32,
-    /// What it does.
+    /// What the machine does.
     pub body: Body,
     /// The channels that it takes, ascending.
     pub ins: Ids,
@@ -80,7 +80,7 @@ impl Drop for Machine {
 
 /// A channel. Machines and channels are named by their numbers.
 pub struct Channel {
-    /// The number in the circuit of the signal whose values it carries, as its consumer takes it.
+    /// The number in the circuit of the signal that it carries, as its consumer takes it.
     pub signal: u32,
     /// The path of the signal.
     pub name: Name,

@@ -1,4 +1,4 @@
-//! The ratios of clocks that follow those of a circuit.
+//! The ratios of clocks that follow a circuit's clocks.
 ghost use Rattle.std.specs.Prelude.{◌≡◌, IfOk, map, slice_index_or, []};
 ghost use Rattle.gg_cut_plan.specs.Clocks.{every_tick, stop_clocks as clocks_of_stops, stop_ratios as ratios_of_stops};
 ghost use Rattle.gg_flat_tree.specs.inside.Clocked.{AreParentsBefore};
@@ -29,8 +29,8 @@ fn ratio_at(ratios: &[Ratio], clock: Option<u32>) -> Ratio
     }
 }
 
-/// The ratios of these clocks, which follow those of a circuit, whose ratios are given. Without ratios there are none, and each clock
-/// has an edge in each tick.
+/// The ratios of these clocks, which follow a circuit's clocks with the given ratios. Without ratios there are none, and each clock has an edge in
+/// each tick.
 ///
 /// # Errors
 ///

@@ -6,7 +6,7 @@
 pub struct Wire {
     /// The number in the circuit of the signal that the consumer takes.
     pub signal: u32,
-    /// The number in the circuit of the signal by which the producer gives its value.
+    /// The number in the circuit of the signal that gives the channel's value in the producer.
     pub given: u32,
     /// The machine that gives its values.
     pub producer: u32,

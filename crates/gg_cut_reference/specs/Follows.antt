@@ -20,15 +20,16 @@ plan_start design request = clocked_start (plan_reference design request) (ratio
 
 -- ---- the token of a pipe
 
--- what the register of the pipe at place k has, which stands behind the registers of the circuit; 0 if there is no pipe
+-- the value of the register of the pipe at place k, which comes after the registers of the circuit; 0 if there is no
+-- pipe
 abbrev pub token_or : Hub → State → Option ℕ → ℕ
 token_or hub state None = 0
 token_or hub state (Some k) = value_at state.registers (length hub.circuit.registers + k)
 
--- what the register of the pipe of signal s has in a state of the reference circuit; 0 if the signal has no pipe
+-- the value of the register of the pipe of signal s in a state of the reference circuit; 0 if the signal has no pipe
 abbrev pub token_of : Hub → State → ℕ → ℕ
 token_of hub state s = token_or hub state (first_place (λ p. p == s) (pipes_of hub))
 
--- the same, for the cut of a request
+-- `token_of` for the cut of a request
 abbrev pub plan_token : Ordered → Request → State → ℕ → ℕ
 plan_token design request state s = token_of (plan_hub design.circuit design.tree request) state s

@@ -19,7 +19,7 @@ use Rattle.gg_cut_reference.specs.Reference.{Views}
 use Rattle.gg_cut_reference.specs.Links.{pipes_of, maker_of, seen_by, views_of}
 use Rattle.gg_flat.specs.Renaming.{renamed_driver, renamed_memory, renamed_register, signals_by}
 
--- a signal whose driver names the others as the machine sees them in which it stands
+-- a signal; its driver names the other signals as the driver's machine sees them
 abbrev pub seen_signal : Views → ℕ → Signal → Signal
 seen_signal views s signal = record { ty = signal.ty; driver = renamed_driver (signals_by (views.seen (views.maker s))) signal.driver }
 
@@ -31,12 +31,12 @@ pipe_signal r signal = record { ty = signal.ty; driver = Held r }
 abbrev pub pipe_register : ℕ → Signal → Register
 pipe_register c signal = record { ty = signal.ty; reset = None; next = Some (record { ty = signal.ty; op = Ref c } ∷ []); clock = None }
 
--- the pipes of the channels of these signals, in order; the first of them holds register r, the next the one behind it
+-- the pipes of the channels of these signals, in order; the first of them holds register r, the next one register r + 1
 abbrev pub pipe_signals : List Signal → ℕ → List ℕ → List Signal
 pipe_signals signals r [] = []
 pipe_signals signals r (c ∷ cs) = option_to_list (option_map (pipe_signal r) (slice_get signals c)) ++ pipe_signals signals (suc r) cs
 
--- the registers of these pipes, in the same order
+-- the registers of the pipes of the channels of these signals, in the same order
 abbrev pub pipe_registers : List Signal → List ℕ → List Register
 pipe_registers signals [] = []
 pipe_registers signals (c ∷ cs) = option_to_list (option_map (pipe_register c) (slice_get signals c)) ++ pipe_registers signals cs
@@ -58,13 +58,13 @@ reference_of one views pipes =
 abbrev pub reference : Hub → (ℕ → ℕ) → (ℕ → ℕ) → FlatCircuit
 reference hub holder keeper = reference_of hub.circuit (views_of hub holder keeper) (pipes_of hub)
 
--- Register r is that of a signal.
+-- Register r is held by a signal.
 pub record HasHolder (circuit : FlatCircuit) (r : ℕ) : Type 0 where
   pub signal : ℕ
   pub within : signal < length circuit.signals
   pub holds : driver_at circuit signal ≡ Held r
 
--- each register is that of a signal
+-- each register is held by a signal
 abbrev pub AllHeld : FlatCircuit → Type 0
 AllHeld circuit = (r : ℕ) → r < length circuit.registers → HasHolder circuit r
 
@@ -82,7 +82,7 @@ holds r (MemoryWord memory reader addr en) = false
 holds r (ReadRegister memory reader) = false
 holds r (Computed line) = false
 
--- The machine in which the signal's driver stands that holds the register. A register that no signal holds is the hub's.
+-- The machine with the driver that holds the register. A register that no signal holds is the hub's.
 abbrev pub holder_of : Hub → ℕ → ℕ
 holder_of hub r = unwrap_or (option_map (maker_of hub) (first_place (λ s. holds r (driver_at hub.circuit s)) (range_with_len 0 (length hub.circuit.signals)))) 0
 
@@ -90,14 +90,14 @@ holder_of hub r = unwrap_or (option_map (maker_of hub) (first_place (λ s. holds
 abbrev pub keeper_of : InstanceTree → Listed → ℕ → ℕ
 keeper_of tree listed m = memory_owner tree listed (unwrap_or (first_place (λ memory. memory.memory == m) tree.memories) 0)
 
--- the reference circuit of the cut, whose views are those of its hub
+-- the reference circuit of the cut, with the views of its hub
 abbrev pub reference_circuit : FlatCircuit → InstanceTree → Listed → (piped driven : ℕ → Bool) → Bool → FlatCircuit
 reference_circuit circuit tree listed piped driven direct = reference (hub_of circuit tree listed piped driven direct) (holder_of (hub_of circuit tree listed piped driven direct)) (keeper_of tree listed)
 
--- The circuit that a request's network computes: the design's, with the registers of the pipes that the request asks for.
+-- The circuit that a request's network computes: the design's, with the registers of the request's pipes.
 abbrev pub plan_reference : Ordered → Request → FlatCircuit
 plan_reference design request = reference_circuit design.circuit design.tree (listed_of design.tree request) (is_piped design.circuit request) (is_driven design.circuit request) request.direct
 
--- the signal of the reference circuit by which the machines of a request's cut see signal t of the design: machine m, and the outputs
+-- the signal of the reference circuit that machine m of a request's cut sees as signal t of the design
 abbrev pub plan_seen : Ordered → Request → ℕ → ℕ → ℕ
 plan_seen design request m t = seen_by (plan_hub design.circuit design.tree request) m t

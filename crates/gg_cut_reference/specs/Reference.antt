@@ -5,8 +5,8 @@ use Rattle.std.specs.Prelude.{ℕ}
 
 -- ---- pipes
 
--- Who names what: `maker` has the machine in which a signal's driver stands, `holder` that of a register, `keeper` that of a
--- memory. `seen m` has the number by which machine m sees a signal, `kept` that by which the tray of an out-signal sees it.
+-- Who names what: `maker` has the machine with a signal's driver, `holder` the machine of a register, `keeper` the machine of a memory. `seen m` has
+-- the number that machine m sees a signal by, `kept` the number that the tray of an out-signal sees it by.
 pub record Views : Type 0 where
   pub maker : ℕ → ℕ
   pub holder : ℕ → ℕ

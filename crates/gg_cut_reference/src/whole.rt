@@ -4,10 +4,10 @@
 //! they compute nothing. For a request without a fault, and models as bridges have them, it promises:
 //!
 //! - the circuit is well formed and has an order of evaluation (`circuit_is_formed`);
-//! - its inputs are those that no bridge drives, and its outputs those that none sees, with the stops behind them (`circuit_has_ports`);
+//! - its inputs are the inputs that no bridge drives, and its outputs the outputs that no bridge sees, followed by the stops (`circuit_has_ports`);
 //! - a run of it is a run of the reference circuit and of each model, and what a bridge drives has the columns of what its model says
 //!   (`circuit_runs`);
-//! - each bridge can stand at its ports, in the circuit with the bridges before it (`bridges_stand`);
+//! - each bridge can be at its ports, in the circuit with the bridges before it (`bridges_stand`);
 //! - it starts with zeros where the reference circuit does (`zeros_stay`), and in a state of its own (`starts_are_typed`).
 //!
 //! Without bridges it is the reference circuit, by its definition.

@@ -1,4 +1,4 @@
-//! Marks on the signals that are no origins: those whose channels are piped, and the inputs that a bridge drives.
+//! Marks on the signals that are no origins: the signals of piped channels, and the inputs that a bridge drives.
 ghost use Rattle.std.specs.Prelude.{◌≡◌, ℕ, ◌<◌, ◌||◌, ◌&&◌, length, bytes_eq, IfOk};
 ghost use Rattle.gg_flat.specs.Circuit.{driver_at};
 ghost use Rattle.gg_flat_tree.specs.Tree.{path_at};
@@ -12,8 +12,7 @@ use gg_flat::{Driver, Piece};
 use gg_partfile::Request;
 use std::alloc::{AllocError, Global};
 
-/// Marks on the signals that are no origins: those whose channels the request pipes, and the inputs that a bridge of the request
-/// drives.
+/// Marks on the signals that are no origins: the signals of channels that the request pipes, and the inputs that a bridge of the request drives.
 ///
 /// # Errors
 ///
@@ -29,7 +28,7 @@ pub fn barred_of(alloc: Global, piece: &Piece, request: &Request) -> Result<Vec<
     Ok(marks)
 }
 
-/// Marks on the signals whose paths are among these names.
+/// Marks on the signals with paths among these names.
 ///
 /// # Errors
 ///
@@ -51,7 +50,7 @@ fn mark_named(marks: &mut [bool], piece: &Piece, name: &Name)
     ensures count { length marks.new ≡ length marks.old }
     ensures marks { (s : ℕ) → s < length piece.now.signals → is_marked marks.new s ≡ (is_marked marks.old s || bytes_eq (path_at piece.now.paths s) name.now) }
 {
-    // for the invariant alone
+    // for the invariant only
     let _ = piece.signal_count();
     match piece.find(name) {
         Some(signal) => marks[signal as usize] = true,
@@ -76,7 +75,7 @@ fn mark_input(marks: &mut [bool], piece: &Piece, name: &Name)
     ensures count { length marks.new ≡ length marks.old }
     ensures marks { (s : ℕ) → s < length piece.now.signals → is_marked marks.new s ≡ (is_marked marks.old s || (is_input (driver_at piece.now s) && bytes_eq (path_at piece.now.paths s) name.now)) }
 {
-    // for the invariant alone
+    // for the invariant only
     let _ = piece.signal_count();
     match piece.find(name) {
         Some(signal) => {

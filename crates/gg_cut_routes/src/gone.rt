@@ -14,8 +14,8 @@ use gg_cut_plan::marks_of;
 use gg_flat::Piece;
 use std::alloc::{AllocError, Global};
 
-// Marks on the signals that leave: the origins of direct channels that nothing which is kept needs, and their copies. `made` has the
-// signals that the hub makes, `memories` its memories.
+// Marks on the signals that leave: the origins of direct channels, if nothing that is kept needs them, and their copies. `made` has the signals that
+// the hub makes, `memories` its memories.
 //
 // # Errors
 //
@@ -65,7 +65,7 @@ fn found_in(alloc: Global, table: &[Option<u32>], signals: &[u32]) -> Result<Vec
     Ok(found)
 }
 
-// The signals among those that the hub makes that are neither copies nor direct.
+// The signals that are neither copies nor direct, among the signals that the hub makes.
 fn kept_of(
     alloc: Global,
     sides: &[Side],
@@ -100,7 +100,7 @@ fn is_kept(side: Side, origin: Option<u32>, direct: Option<u32>) -> bool
     }
 }
 
-// Marks on the signals whose origin leaves.
+// Marks on the signals with an origin that leaves.
 fn gone_by(
     alloc: Global,
     origins: &[Option<u32>],

@@ -24,15 +24,15 @@ pub fn plan_is_routed()
     ensures { PlansAreRouted }
 {}
 
-/// If no channels are to be direct, the channels are those of the cut, and no signal leaves.
+/// If no channels are to be direct, the channels are the cut's, and no signal leaves.
 pub fn nothing_direct()
     ensures channels { (circuit : FlatCircuit) (tree : InstanceTree) (listed : Listed) (piped driven : ℕ → Bool) → routes (hub_of circuit tree listed piped driven false) ≡ wires_of circuit tree listed }
     ensures stays { (circuit : FlatCircuit) (tree : InstanceTree) (listed : Listed) (piped driven : ℕ → Bool) (s : ℕ) → is_gone (hub_of circuit tree listed piped driven false) s ≡ false }
     ensures plan { (circuit : FlatCircuit) (tree : InstanceTree) (request : Request) → request.direct ≡ false → plan_routes circuit tree request ≡ wires_of circuit tree (listed_of tree request) }
 {}
 
-/// What a machine of a cut had before the routing gives what it has by the routed channels. Of the hub's signals those stay that
-/// aren't marked as gone and whose channels don't pass the hub. Every other machine has the signals that it had.
+/// What a machine of a cut had before the routing determines what it has by the routed channels. A signal of the hub stays if it isn't marked as gone
+/// and its channel doesn't pass the hub. Every other machine has the signals that it had.
 pub fn shares_routed()
     ensures hub { HubIsRouted }
     ensures others { OthersAreRouted }

@@ -1,20 +1,20 @@
 //! Direct channels: the hub no longer passes on what it only copies.
 //!
-//! In a cut of many units the hub's piece has wires that do nothing but lead from one channel to another. Such a channel
-//! may go straight from the machine that makes the value to the one that takes it (gg_cut_plan's `specs/Direct`). The crate
-//! promises, for a design and what is listed, if no unit lies in another:
+//! In a cut of many units the hub's piece has wires that do nothing but lead from one channel to another. Such a channel may go straight from the
+//! machine that makes the value to the machine that takes it (gg_cut_plan's `specs/Direct`). The crate promises, for a design and what is listed, if
+//! no unit lies in another:
 //!
-//! - [`routes`] gives the channels that are left, in their order, and tells which signals leave the plan, just as the
-//!   definitions say (`routes`, `is_gone`); [`plan_routes`] gives those of a request;
-//! - [`piped_of`] marks the signals with some names, [`barred_of`] those that are no origins, and [`staying`] gives what stays of
-//!   the hub's signals;
+//! - [`routes`] returns the channels that are left, in their order, and which signals leave the plan, as the definitions say (`routes`, `is_gone`);
+//!   [`plan_routes`] returns the same for a request;
+//! - [`piped_of`] marks the signals with some names, [`barred_of`] the signals that are no origins, and [`staying`] returns what stays of the hub's
+//!   signals;
 //! - these channels are good for a network as the channels before are (`channels_routed`, `AreRoutes` in
 //!   `specs/inside/Routes`): no two carry one signal; both signals of a channel have one value in every settled cycle; a machine
 //!   doesn't take what it gives; the hub, a unit and a listed memory make parts of the circuit; a source gives its input on
 //!   one or more channels, and a tray takes one. A request without a fault has such channels (`plan_is_routed`).
 //!
-//! The pass is linear: a table of what each signal is to the hub, one of origins along the order of evaluation, marks on
-//! what the hub names, and one look at each channel.
+//! The pass is linear. It uses a table of what each signal is to the hub, a table of origins along the order of evaluation, marks on what the hub
+//! names, and one look at each channel.
 #![tactic(auto)]
 
 mod barred;

@@ -72,7 +72,7 @@ fn push_driver_of(names: &mut Vec<u32>, piece: &Piece, signal: u32) -> Result<()
     )
 }
 
-// Adds what a driver names, which is that of a signal.
+// Adds what a driver of the circuit names.
 fn push_driver(
     names: &mut Vec<u32>,
     piece: &Piece,

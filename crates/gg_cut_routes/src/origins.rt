@@ -77,7 +77,7 @@ fn fill_origins(
     }
 }
 
-// The origin of a signal, from those of the signals before it.
+// The origin of a signal, from the origins of the signals before it.
 fn origin_of(
     piece: &Piece,
     sides: &[Side],
@@ -131,7 +131,7 @@ fn copied(piece: &Piece, signal: u32) -> Option<u32>
     }
 }
 
-// A signal, if it is as wide as the one that is a reference to it.
+// A signal, if it is as wide as the signal that refers to it.
 fn if_wide(piece: &Piece, signal: u32, next: u32) -> Option<u32>
     requires signal { signal < length piece.now.signals }
     requires next { next < length piece.now.signals }
@@ -146,7 +146,7 @@ fn if_wide(piece: &Piece, signal: u32, next: u32) -> Option<u32>
     }
 }
 
-// The signal to which a driver is a bare reference.
+// The signal that a driver refers to, if the driver is a bare reference.
 fn bare_of(driver: &Driver) -> Option<u32>
     ensures { result ≡ bare_of driver.now }
 {
@@ -159,7 +159,7 @@ fn bare_of(driver: &Driver) -> Option<u32>
     }
 }
 
-// The signal to which a line is a bare reference.
+// The signal that a line refers to, if the line is a bare reference.
 fn bare_line(line: &[Node]) -> Option<u32>
     ensures { result ≡ bare_line line.now }
 {

@@ -20,8 +20,8 @@ use gg_order::Design;
 use gg_partfile::Request;
 use std::alloc::{AllocError, Global};
 
-/// The channels of the plan of a request that lists this, and what leaves. `split` has the channels before and what each machine
-/// has. If the request asks for no direct channels, all channels stay as they are.
+/// The channels of the plan of a request that lists this, and what leaves. `split` has the channels before and what each machine has. If the request
+/// has no direct channels, all channels stay as they are.
 ///
 /// # Errors
 ///
@@ -43,15 +43,15 @@ pub fn plan_routes(
     ensures sound { IfOk result (λ found. AreRoutes design.now listed.now (plan_hub design.now.circuit design.now.tree request.now)) }
 {
     channels_routed();
-    // for the invariant alone
+    // for the invariant only
     let _ = design.order();
     let barred = barred_of(alloc, design.piece(), request)?;
     let channels = routes(alloc, design, listed, split, &barred, request.direct)?;
     Ok(channels)
 }
 
-/// What stays of these signals of the hub, in their order. The channels are those after the routing; `gone` marks what leaves, and
-/// `count` is the number of all signals.
+/// What stays of these signals of the hub, in their order. `wires` are the channels after the routing, `gone` marks what leaves, and `count` is the
+/// number of all signals.
 ///
 /// # Errors
 ///
@@ -96,7 +96,7 @@ fn is_past_hub(wire: Wire) -> bool
     wire.producer != 0 && wire.consumer != 0
 }
 
-// Whether a signal is neither gone nor that of a channel that passes the hub.
+// Whether a signal is neither gone nor carried past the hub.
 fn stays(gone: &[bool], past: &[bool], signal: u32) -> bool
     ensures { result ≡ (not (is_marked gone.now signal) && not (is_marked past.now signal)) }
 {

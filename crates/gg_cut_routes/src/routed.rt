@@ -7,7 +7,7 @@ use crate::sides::Side;
 use gg_cut_plan::Wire;
 use std::alloc::{AllocError, Global};
 
-// The channels whose signals don't leave, each with the in-channel that is given in its place, if it is direct.
+// The channels with signals that don't leave, each with the in-channel that is given in its place, if it is direct.
 //
 // # Errors
 //

@@ -43,7 +43,7 @@ pub(crate) fn routed_sides(
     Ok(sides)
 }
 
-// A list with `count` times none of the hub's.
+// A list with `count` times `Other`.
 fn others(alloc: Global, count: usize) -> Result<Vec<Side>, AllocError>
     ensures { IfOk result (λ sides. sides.items ≡ replicate count Other) }
 {
@@ -66,7 +66,7 @@ fn put_globals(globals: &[u32], sides: &mut Vec<Side>)
     }
 }
 
-// Puts in what the channels say.
+// Sets what the signals of these channels are to the hub.
 fn put_wires(wires: &[Wire], sides: &mut Vec<Side>)
     requires known { All (λ w. w.signal < length sides.old.items) wires.now }
     ensures count { length sides.new.items ≡ length sides.old.items }
@@ -112,7 +112,7 @@ pub(crate) fn made_of(
     Ok(made)
 }
 
-// Whether the hub makes such a signal.
+// Whether the hub makes a signal of this side.
 fn is_makers(side: Side) -> bool
     ensures { result ≡ is_makers side }
 {

@@ -23,7 +23,7 @@ use gg_flat_tree::Tree;
 use gg_partfile::{BridgeEntry, Request};
 use std::alloc::Global;
 
-// What the entries so far list.
+// What the earlier entries list.
 #[derive(Drop)]
 struct Before {
     names: Paths,
@@ -41,7 +41,7 @@ fn knows(models: &Models, name: &Name) -> bool
     }
 }
 
-// Adds a name to those before, if it isn't there yet. Returns whether it wasn't.
+// Adds a name to the earlier names, if it isn't among them. Returns whether it was added.
 fn add_fresh(names: &mut Paths, name: &Name) -> Result<bool, CutFault>
     requires few { length names.old < 2 ^ 32 - 1 }
     ensures fresh { IfOk result (λ fresh. fresh ≡ not (is_among names.old name.now)) }
@@ -55,7 +55,7 @@ fn add_fresh(names: &mut Paths, name: &Name) -> Result<bool, CutFault>
     }
 }
 
-// Whether a name may stand behind those before, which it is added to then. It is known, or not.
+// Whether a name is known and isn't among the earlier names. It is added to them then.
 fn is_new(known: bool, names: &mut Paths, name: &Name) -> Result<bool, CutFault>
     requires few { length names.old < 2 ^ 32 - 1 }
     ensures stands { IfOk result (λ stands. stands ≡ not (not known || is_among names.old name.now)) }
@@ -68,7 +68,7 @@ fn is_new(known: bool, names: &mut Paths, name: &Name) -> Result<bool, CutFault>
     add_fresh(names, name)
 }
 
-// Checks the name of an entry, and adds it to those before.
+// Checks the name of an entry, and adds it to the earlier names.
 fn name_stands(models: &Models, names: &mut Paths, name: &Name) -> Result<(), CutFault>
     requires few { length names.old < 2 ^ 32 - 1 }
     ensures told { Tells (option_map UnknownBridge (unknown_bridge (model_names models.now) names.old name.now)) result }
@@ -81,7 +81,7 @@ fn name_stands(models: &Models, names: &mut Paths, name: &Name) -> Result<(), Cu
     }
 }
 
-// Checks a port of an entry, and adds it to those before. The ports of its direction have these signals.
+// Checks a port of an entry, and adds it to the earlier ports. The ports of its direction have these signals.
 fn port_stands(
     piece: &Piece,
     signals: &[u32],
@@ -103,7 +103,7 @@ fn port_stands(
     }
 }
 
-// Checks ports of an entry, and adds them to those before.
+// Checks ports of an entry, and adds them to the earlier ports.
 fn ports_stand(
     piece: &Piece,
     signals: &[u32],
@@ -139,7 +139,7 @@ fn signal_of(piece: &Piece, port: &Name) -> Option<u32>
     ensures place { result ≡ place_of piece.now.paths port.now }
     ensures known { IfSome result (λ s. s < length piece.now.signals) }
 {
-    // for the invariant alone
+    // for the invariant only
     let _ = piece.signal_count();
     piece.find(port)
 }
@@ -158,7 +158,7 @@ fn port_fits(piece: &Piece, port: &Name, model: &Piece, signal: u32) -> bool
     }
 }
 
-// Whether ports have the types of these signals of a model, as many and in order.
+// Whether ports have the types of these signals of a model, equally many and in order.
 fn ports_fit(piece: &Piece, ports: &[Name], model: &Piece, signals: &[u32]) -> bool
     requires { All (λ s. s < length model.now.signals) signals.now }
     ensures { result ≡ fit_ports piece.now ports.now (shapes_at model.now signals.now) }
@@ -178,7 +178,7 @@ fn ports_fit(piece: &Piece, ports: &[Name], model: &Piece, signals: &[u32]) -> b
 fn place_of(models: &Models, name: &Name) -> Option<usize>
     ensures { result ≡ place_of (model_names models.now) name.now }
 {
-    // for the invariant alone
+    // for the invariant only
     let _ = models.len();
     models.find(name)
 }
@@ -228,7 +228,7 @@ struct Sides<'a> {
     in_marks: Vec<bool>,
 }
 
-// Checks an entry, and adds it to those before.
+// Checks an entry, and adds it to the earlier entries.
 fn entry_stands(
     piece: &Piece,
     sides: &Sides<'_>,
@@ -265,7 +265,7 @@ fn entry_stands(
     Ok(())
 }
 
-// Checks entries, and adds them to those before.
+// Checks entries, and adds them to the earlier entries.
 fn entries_stand(
     piece: &Piece,
     sides: &Sides<'_>,
@@ -289,7 +289,7 @@ fn entries_stand(
     Ok(())
 }
 
-/// Judges the bridges that a request lists, for a circuit with its tree and the models that are known.
+/// Checks the bridges that a request lists, for a circuit with its tree and the models that are known.
 ///
 /// # Errors
 ///

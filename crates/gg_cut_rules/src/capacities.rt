@@ -11,11 +11,11 @@ use gg_bits::{CAPACITY_LIMIT, Name};
 use gg_cut_plan::CutFault;
 use gg_flat::Piece;
 
-// Checks that each name is that of a channel. The channels have these signals.
+// Checks that each name is a channel's. The channels have these signals.
 //
 // # Errors
 //
-// Returns `UnknownChannel` with the first name that isn't that of a channel, or `NoMemory` if an allocation fails.
+// Returns `UnknownChannel` with the first name that no channel has, or `NoMemory` if an allocation fails.
 pub(crate) fn channels_exist(
     piece: &Piece,
     signals: &[u32],
@@ -35,14 +35,14 @@ pub(crate) fn channels_exist(
     Ok(())
 }
 
-// Whether a name is that of a channel.
+// Whether a name is a channel's.
 pub(crate) fn is_channel(piece: &Piece, _signals: &[u32], marks: &[bool], name: &Name) -> bool
     requires known { All (λ s. s < length piece.now.signals) _signals.now }
     requires marks { AreMarks _signals.now marks.now }
     requires count { length marks.now ≡ length piece.now.signals }
     ensures { result ≡ is_among (channel_names piece.now _signals.now) name.now }
 {
-    // for the invariant alone
+    // for the invariant only
     let _ = piece.signal_count();
     match piece.find(name) {
         Some(signal) => marks[signal as usize],

@@ -12,7 +12,7 @@ use gg_cut_plan::CutFault;
 use gg_flat_tree::Tree;
 use std::alloc::{AllocError, Global};
 
-// Checks that each name is that of a Clock input of the top.
+// Checks that each name is a Clock input's of the top.
 //
 // # Errors
 //
@@ -130,7 +130,7 @@ fn ratio_at(names: &Paths, ratios: &[Ratio], name: &Name) -> Ratio
     }
 }
 
-/// The ratios of the circuit's clocks, in order. Those that the request gives are in range.
+/// The ratios of the circuit's clocks, in order. The ratios that the request gives are in range.
 ///
 /// # Errors
 ///

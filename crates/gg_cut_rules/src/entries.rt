@@ -95,7 +95,7 @@ pub(crate) fn none_repeated(alloc: Global, paths: &[Name]) -> Result<(), CutFaul
     add_all(&mut seen, paths)
 }
 
-// Adds paths to those seen so far.
+// Adds paths to the paths that were seen so far.
 fn add_all(seen: &mut Paths, paths: &[Name]) -> Result<(), CutFault>
     requires few { length seen.old + length paths.now < 2 ^ 32 }
     ensures told { Tells (option_map Doubled (first_clash same_path seen.old paths.now)) result }
@@ -107,7 +107,7 @@ fn add_all(seen: &mut Paths, paths: &[Name]) -> Result<(), CutFault>
     Ok(())
 }
 
-// Adds a path to those seen so far.
+// Adds a path to the paths that were seen so far.
 fn add_one(seen: &mut Paths, path: &Name) -> Result<(), CutFault>
     requires few { length seen.old < 2 ^ 32 - 1 }
     ensures told { Tells (option_map Doubled (first_clash same_path seen.old (path.now ∷ []))) result }
@@ -153,7 +153,7 @@ pub(crate) fn shared_once(alloc: Global, share: &[Names]) -> Result<(), CutFault
 //
 // # Errors
 //
-// Returns `OtherModule` with the first entry of a list whose module isn't that of the list's first entry, or
+// Returns `OtherModule` with the first entry of a list that has another module than the list's first entry, or
 // `NoMemory` if an allocation fails.
 pub(crate) fn one_module_each(tree: &Tree, share: &[Names]) -> Result<(), CutFault>
     ensures { Tells (option_map OtherModule (other_module tree.now share.now)) result }

@@ -2,11 +2,10 @@
 //!
 //! The crate promises:
 //!
-//! - `judge_entries` returns what a request lists exactly if its entries have no fault, and else their first fault. With the
-//!   signals of the plan's channels, `judge_channels` tells the first fault of the capacities and of the numbers of units and of
-//!   channels, and `judge_pipes` the first of the pipes. `judge_clocks` tells the first of the clocks. The four together tell
-//!   `first_fault`. With the models that are known, `judge_bridges` tells the first of the bridges, and the five together tell
-//!   `first_fault_with`;
+//! - `judge_entries` returns what a request lists exactly if its entries have no fault, otherwise their first fault. With the signals of the plan's
+//!   channels, `judge_channels` returns the first fault of the capacities and of the numbers of units and of channels, and `judge_pipes` the first
+//!   fault of the pipes. `judge_clocks` returns the first fault of the clocks. The four together return `first_fault`. With the models that are
+//!   known, `judge_bridges` returns the first fault of the bridges, and the five together return `first_fault_with`;
 //! - `clock_ratios` returns the ratios of the circuit's clocks.
 #![tactic(auto)]
 

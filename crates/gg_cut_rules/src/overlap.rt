@@ -77,7 +77,7 @@ pub(crate) fn place(tree: &Tree, path: &Name) -> u32
     ensures place { result ≡ instance_of tree.now path.now }
     ensures within { result < length tree.now.instances }
 {
-    // for the invariant alone
+    // for the invariant only
     let _ = tree.len();
     match instance(tree, path) {
         Some(place) => place,

@@ -12,7 +12,7 @@ use std::alloc::Global;
 pub(crate) fn instance(tree: &Tree, path: &Name) -> Option<u32>
     ensures { result ≡ place_of tree.now.paths path.now }
 {
-    // for the invariant alone
+    // for the invariant only
     let _ = tree.len();
     tree.find(path)
 }
@@ -21,12 +21,12 @@ pub(crate) fn instance(tree: &Tree, path: &Name) -> Option<u32>
 pub(crate) fn memory(tree: &Tree, path: &Name) -> Option<u32>
     ensures { result ≡ place_of tree.now.memory_paths path.now }
 {
-    // for the invariant alone
+    // for the invariant only
     let _ = tree.memory_count();
     tree.find_memory(path)
 }
 
-// Whether a path is that of an instance. The top's path isn't.
+// Whether a path is an instance's. The top's path isn't.
 pub(crate) fn is_instance(tree: &Tree, path: &Name) -> bool
     ensures { result ≡ is_instance_path tree.now path.now }
 {
@@ -36,7 +36,7 @@ pub(crate) fn is_instance(tree: &Tree, path: &Name) -> bool
     }
 }
 
-// Whether a path is that of a memory.
+// Whether a path is a memory's.
 pub(crate) fn is_memory(tree: &Tree, path: &Name) -> bool
     ensures { result ≡ is_memory_path tree.now path.now }
 {

@@ -13,11 +13,11 @@ use gg_cut_plan::CutFault;
 use gg_flat::Piece;
 use std::alloc::Global;
 
-// Checks that each name is that of a channel. The channels have these signals.
+// Checks that each name is a channel's. The channels have these signals.
 //
 // # Errors
 //
-// Returns `UnknownPipe` with the first name that isn't that of a channel, or `NoMemory` if an allocation fails.
+// Returns `UnknownPipe` with the first name that no channel has, or `NoMemory` if an allocation fails.
 pub(crate) fn pipes_exist(
     piece: &Piece,
     signals: &[u32],

@@ -51,7 +51,7 @@ pub(crate) fn listed_memories(
     Ok(memories_in(alloc, &set, tree)?)
 }
 
-// The places of the memories whose paths are in a set.
+// The places of the memories with paths in a set.
 fn memories_in(alloc: Global, set: &Paths, tree: &Tree) -> Result<Vec<u32>, AllocError>
     ensures memories { IfOk result (λ found. found.items ≡ filter (λ j. is_among set.now (path_at tree.now.memory_paths j)) (range_with_len 0 (length tree.now.memories))) }
     ensures few { IfOk result (λ found. length found.items < 2 ^ 32) }

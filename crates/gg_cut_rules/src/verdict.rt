@@ -1,4 +1,4 @@
-//! The judgement of a request.
+//! The checks of a request.
 ghost use Rattle.std.specs.Prelude.{◌≡◌, ◌+◌, ◌<◌, ◌^◌, length, option_map, nat_lt, if◌then◌else◌, Some, None, All, IfOk, IfErr};
 ghost use Rattle.gg_flat_tree.specs.Tree.{IsTree};
 ghost use Rattle.gg_part.specs.KeepsToTree.{KeepsToTree};
@@ -25,8 +25,8 @@ use gg_order::Design;
 use gg_partfile::Request;
 use std::alloc::Global;
 
-/// Judges the entries of a request for a design whose circuit keeps to its tree: which name nothing or occur twice, lists of
-/// units with different modules, and memories. Returns what the request lists.
+/// Checks the entries of a request for a design that keeps to its tree: entries that name nothing or occur twice, lists of units with different
+/// modules, and memories. Returns what the request lists.
 ///
 /// # Errors
 ///
@@ -62,8 +62,7 @@ fn judge_listed(
     Ok(listed)
 }
 
-// Checks the entries: for those that name nothing, those that occur twice, lists of units with different modules, and the
-// memories.
+// Checks the entries: entries that name nothing, entries that occur twice, lists of units with different modules, and the memories.
 fn check_entries(
     alloc: Global,
     _piece: &Piece,
@@ -102,8 +101,8 @@ fn list(alloc: Global, _piece: &Piece, tree: &Tree, request: &Request) -> Result
     })
 }
 
-/// Judges the capacities of a request that lists this, and the numbers of units and of channels. The channels have these signals,
-/// which their consumers take.
+/// Checks the capacities of a request that lists this, and the numbers of units and of channels. The channels have these signals, which their
+/// consumers take.
 ///
 /// # Errors
 ///
@@ -131,7 +130,7 @@ pub fn judge_channels(
     Ok(())
 }
 
-/// Judges the pipes that a request asks for. The channels have these signals, which their consumers take.
+/// Checks the pipes of a request. The channels have these signals, which their consumers take.
 ///
 /// # Errors
 ///
@@ -152,7 +151,7 @@ pub fn judge_pipes(
     Ok(())
 }
 
-/// Judges the ratios of clocks that a request gives.
+/// Checks the ratios of clocks that a request gives.
 ///
 /// # Errors
 ///

@@ -1,4 +1,4 @@
-//! What a split begins with, and what tells the owners too.
+//! What a split begins with, and what is needed to find the owners.
 ghost use Rattle.std.specs.Prelude.{◌≡◌, ◌<◌, ◌^◌, IfOk};
 ghost use Rattle.gg_cut_plan.specs.inside.Machines.{machine_count, numbering_of};
 ghost use Rattle.gg_cut_split.specs.inside.Beginning.{IsBeginning, IsWhole};
@@ -19,7 +19,8 @@ pub(crate) struct Whole<'a> {
     pub(crate) listed: &'a Listed,
 }
 
-// The numbers of the machines, the machine of each instance, that of each signal by its instance, and the channels.
+// The numbers of the machines, the machine of each instance, the machine of each signal by its instance, and the
+// channels.
 #[derive(Drop)]
 pub(crate) struct Beginning {
     pub(crate) numbering: Numbering,

@@ -15,7 +15,7 @@ use gg_flat::{Piece, Reader, Writer};
 use gg_flat_tree::{InstancePort, Tree};
 use std::alloc::{AllocError, Global};
 
-// The channels of a cut, in their order. `owners` has the machine of each instance, and `holders` that of each top output.
+// The channels of a cut, in their order. `owners` has the machine of each instance, and `holders` the machine of each top output.
 //
 // # Errors
 //

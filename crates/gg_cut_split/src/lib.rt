@@ -10,14 +10,13 @@
 //! - what the hub, a unit or a memory has makes a part of the circuit (`IsChoice` in gg_part): for each signal that
 //!   it makes, it makes or takes all that the signal's driver, register or memory names.
 //!
-//! `sides_of` gives the channels that each machine takes and gives, by any list of channels. `owned_of` gives the channels before the
-//! routing, and tells which machine signals and memories belong to.
+//! `sides_of` gives the channels that each machine takes and gives, by any list of channels. `owned_of` gives the channels before the routing, and
+//! the owners of signals and memories.
 //!
 //! One pass over the order gives all machines their signals. It uses a table of the channel of each signal and a
 //! table of the owner of each signal.
 //!
-//! Two modules have laws alone: `closed` says that the machines of a cut are closed, `again` that duplicate units have the
-//! same, with other numbers.
+//! Two modules have only laws: `closed` says that the machines of a cut are closed, `again` that duplicate units have the same, with other numbers.
 #![tactic(auto)]
 
 mod again;

@@ -15,7 +15,7 @@ use gg_cut_plan::{Listed, Wire};
 use gg_order::Design;
 use std::alloc::{AllocError, Global};
 
-/// The channels of a cut, and what belongs to which machine.
+/// The channels of a cut, and the owners of its signals and memories.
 pub struct Owned {
     /// The channels, before any is routed.
     pub wires: Items<Wire>,
@@ -38,7 +38,7 @@ impl Drop for Owned {
     }
 }
 
-/// The channels of a cut, and what belongs to which machine. What is listed is apart.
+/// The channels of a cut, and the owners of its signals and memories. What is listed is apart.
 ///
 /// # Errors
 ///
@@ -51,7 +51,7 @@ pub fn owned_of(alloc: Global, design: &Design, listed: &Listed) -> Result<Owned
     ensures signals { IfOk result (λ found. (s : ℕ) → s < length design.now.circuit.signals → IsInner found.wires s → value_at found.signals s ≡ owner_of design.now.circuit design.now.tree listed.now s) }
     ensures memories { IfOk result (λ found. (place : ℕ) → place < length design.now.tree.memories → value_at found.memories place ≡ memory_owner design.now.tree listed.now place) }
 {
-    // for the invariant alone
+    // for the invariant only
     let _ = design.piece().signal_count();
     let whole = Whole {
         piece: design.piece(),
@@ -63,7 +63,7 @@ pub fn owned_of(alloc: Global, design: &Design, listed: &Listed) -> Result<Owned
     Ok(found)
 }
 
-// The same of a circuit with its tree and an order.
+// `owned_of` for a circuit with its tree and an order.
 fn owned_in(alloc: Global, whole: &Whole) -> Result<Owned, AllocError>
     requires { IsWhole whole.now }
     ensures wires { IfOk result (λ found. found.wires ≡ wires_of whole.now.piece.now whole.now.tree.now whole.now.listed.now) }

@@ -30,7 +30,7 @@ pub fn split(alloc: Global, design: &Design, listed: &Listed) -> Result<Split, A
     ensures shares { IfOk result (λ split. AreShares design.now listed.now split.shares) }
     ensures few { IfOk result (λ split. machine_count design.now.circuit listed.now < 2 ^ 32) }
 {
-    // for the invariant alone
+    // for the invariant only
     let _ = design.piece().signal_count();
     let whole = Whole {
         piece: design.piece(),

@@ -2,7 +2,7 @@
 use gg_bits::{Ids, Items};
 use gg_cut_plan::Wire;
 
-/// What a machine has. All numbers are those of the whole circuit.
+/// What a machine has. All numbers are numbers of the whole circuit.
 pub struct Share {
     /// The channels that it takes, ascending.
     pub ins: Ids,

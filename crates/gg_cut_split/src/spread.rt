@@ -9,7 +9,8 @@ use gg_cut_plan::Wire;
 use gg_flat_tree::Tree;
 use std::alloc::{AllocError, Global};
 
-/// The channels that each of `count` machines takes and those that it gives, by the machines' numbers. The lists ascend.
+/// The channels that each of `count` machines takes, and the channels that it gives, by the machines' numbers. The
+/// lists ascend.
 pub struct Sides {
     /// The channels that each machine takes.
     pub ins: Vec<Pile>,
@@ -60,8 +61,8 @@ fn put_channels(wires: &[Wire], ins: &mut [Pile], outs: &mut [Pile]) -> Result<(
     Ok(())
 }
 
-// The signals of each machine, among those of an order. A signal with a channel belongs to the machines at the ends
-// of the channel. Any other signal belongs to its owner.
+// The signals of each machine, among the signals of an order. A signal with a channel belongs to the machines at the
+// ends of the channel. Any other signal belongs to its owner.
 //
 // # Errors
 //

@@ -9,7 +9,7 @@ use gg_cut_plan::{Listed, Numbering, Wire};
 use gg_flat_tree::Tree;
 use std::alloc::{AllocError, Global};
 
-// The machine that each signal belongs to by the instance that has it: the unit, else the hub.
+// The machine that each signal belongs to by the instance that has it: the unit, otherwise the hub.
 //
 // # Errors
 //
@@ -53,7 +53,7 @@ fn claim_units(tree: &Tree, numbering: &Numbering, units: &[u32], owners: &mut [
     }
 }
 
-// Gives a unit those of its signals that are still the hub's.
+// Gives a unit its signals that are still the hub's.
 fn claim_unit(tree: &Tree, unit: u32, number: u32, owners: &mut [u32])
     requires known { unit < length tree.now.instances }
     requires range { (instance_at tree.now unit).first ≤ (instance_at tree.now unit).end }
@@ -65,7 +65,7 @@ fn claim_unit(tree: &Tree, unit: u32, number: u32, owners: &mut [u32])
     claim(owners, instance.first, instance.end, number);
 }
 
-// Gives a machine those signals from `first` up to `end` that are still the hub's.
+// Gives a machine the signals from `first` up to `end` that are still the hub's.
 fn claim(owners: &mut [u32], first: u32, end: u32, number: u32)
     requires range { first ≤ end }
     requires inside { end ≤ length owners.old }

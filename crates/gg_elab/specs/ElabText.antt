@@ -5,7 +5,7 @@ use Rattle.gg_elab_sites.specs.declared.counts.Measure.TheVariants as measures
 use Rattle.gg_shape.specs.declared.fault.Limit.{Limit}
 use Rattle.gg_shape.specs.declared.fault.Limit.TheVariants as limits
 
--- the limit that a count of this measure is held against
+-- the limit for a count of this measure
 abbrev pub limit_of : Measure → Limit
 limit_of measures.Depth = limits.Depth
 limit_of measures.Signals = limits.Signals

@@ -6,7 +6,7 @@ use Rattle.gg_elab_sites.specs.declared.counts.Excess.{Excess}
 use Rattle.gg_elab_sites.specs.Counts.{counts_of, first_excess}
 use Rattle.gg_elab_sites.specs.Signals.{Types, own_signals}
 
--- the number of own signals of each module, from place k on
+-- the number of own signals of each of these modules; the first is at place k
 abbrev pub own_counts : Types → ℕ → List ModuleTree → List ℕ
 own_counts types k [] = []
 own_counts types k (m ∷ ms) = length (own_signals types k m) ∷ own_counts types (suc k) ms

@@ -174,7 +174,7 @@ fn input(
     }
 }
 
-// The clock of the circuit that a register of a site follows, of what is written for its clock.
+// The clock of the circuit that a register of a site follows, from what is written for its clock.
 fn followed(site: &Site, written: &Expr) -> Option<u32>
     ensures { result ≡ clock_at_number (site_clocks site.now.typed.now.circuit.modules (site_of site.now.place.now))
         (clock_of_term (module_at site.now.typed.now.circuit.modules site.now.place.now.number) written.now) }

@@ -37,7 +37,7 @@ fn own_counts(alloc: Global, digests: &[Digest]) -> Result<Vec<u64>, AllocError>
     Ok(counts)
 }
 
-// The flat circuit of a circuit whose top is the module at this place, and its tree.
+// The flat circuit of a circuit with the module at this place as its top, and its tree.
 fn build<'a>(
     alloc: Global,
     typed: &Typed<'a>,

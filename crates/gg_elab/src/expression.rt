@@ -13,7 +13,7 @@ use gg_flat::{Line, Node, Op};
 use gg_types::literal;
 use std::alloc::{AllocError, Global};
 
-// The node of a line that stands for an expression.
+// The node of a line that computes an expression.
 #[derive(Clone, Copy)]
 pub(crate) struct Stand {
     // Its place in the line.
@@ -80,7 +80,7 @@ fn add_literal(_scope: &Scope, line: &mut Line, constant: &Literal) -> Result<St
     }
 }
 
-// Adds the nodes of an expression; the last stands for it.
+// Adds the nodes of an expression; the last computes it.
 pub(crate) fn add_expression(
     alloc: Global,
     scope: &Scope,

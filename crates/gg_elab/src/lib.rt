@@ -2,10 +2,10 @@
 //!
 //! The crate promises of `flatten`:
 //!
-//! - the flat circuit that it returns is that of the circuit (`IsFlat`), and is well formed; each of its registers is
-//!   held by exactly one signal;
-//! - the tree that it returns is a tree of the flat circuit (`IsTree`), and the flat circuit keeps to the tree's
-//!   scopes (`IsScoped`);
+//! - the flat circuit that it returns is the circuit's (`IsFlat`), and is well formed; each of its registers is held by
+//!   exactly one signal;
+//! - the tree that it returns is a tree of the flat circuit (`IsTree`), and the flat circuit keeps to the tree's scopes
+//!   (`IsScoped`);
 //! - it refuses a circuit exactly if a count is above its limit, with the first such count (`IsAnswered`).
 //!
 //! A circuit without faults of types has a flat circuit (`each_has_flat`).

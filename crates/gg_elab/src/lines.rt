@@ -35,14 +35,14 @@ fn add_zero_of(line: &mut Line, ty: Ty) -> Result<(), AllocError>
     Ok(())
 }
 
-// Whether a type is that of a condition.
+// Whether a type is a condition's.
 fn is_bit(ty: Ty) -> bool
     ensures { result ≡ is_condition (shape ty) }
 {
     ty.kind == Kind::UInt && ty.width == 1
 }
 
-// The line, if its value can be taken; else the line with a 0 of this type at the end.
+// The line if its value can be taken, otherwise the line with a 0 of this type at the end.
 fn cut(line: Line, taken: bool, sink: Ty) -> Result<Line, AllocError>
     ensures { IfOk result (IsCut taken line (shape sink)) }
 {
@@ -86,7 +86,7 @@ fn zero_line(alloc: Global, scope: &Scope, ty: Ty) -> Result<Line, AllocError>
     ensures zeroed { IfOk result (IsLineFor (context_of scope.now) (shape ty) (Some Zeroed)) }
     ensures fits { IfOk result (IsSource (HasType (context_of scope.now).bindings.signals.shapes) (shape ty)) }
 {
-    // for the invariant alone
+    // for the invariant only
     let _ = scope.number;
     let mut line = Line::new(alloc);
     add_zero_of(&mut line, ty)?;

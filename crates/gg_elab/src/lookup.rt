@@ -22,7 +22,7 @@ pub(crate) fn find(
     }
     let name = written(alloc, reference)?;
     let path = joined(alloc, scope.path, &name)?;
-    // for the invariant alone
+    // for the invariant only
     let _ = scope.table.paths.len();
     Ok(scope.table.paths.find(&path))
 }

@@ -1,4 +1,4 @@
-//! `Site`: whose signals are added.
+//! `Site`: a site of the circuit while its signals are added.
 ghost use Rattle.std.specs.Prelude.{◌≡◌, length};
 ghost use Rattle.std.specs.Coded.{codes, Coded-set};
 ghost use Rattle.std.proofs.Props.{props};

@@ -23,7 +23,7 @@ clock_of m (BinaryTerm op a b) = None
 clock_of m (FixedTerm op a n k) = None
 clock_of m (MuxTerm c a b) = None
 
--- the same of what a sink is connected to; without a connection, and by `is invalid`, it follows none
+-- `clock_of` for what a sink is connected to; without a connection, and by `is invalid`, it follows none
 abbrev pub clock_connected : ModuleTree → Option Connection → Option ℕ
 clock_connected m None = None
 clock_connected m (Some Zeroed) = None
@@ -35,7 +35,7 @@ port_clock m memory port = clock_connected m (connection_in m.statements (field_
 
 -- ---- from a module to what holds it
 
--- for each Clock input of a module that stands in `around` under this name, the Clock input of `around` that it follows
+-- for each Clock input of an instance of module m with this name in `around`, the Clock input of `around` that it follows
 abbrev pub clocks_given : ModuleTree → List ℕ → ModuleTree → List (Option ℕ)
 clocks_given around name m = map (λ port. clock_connected around (connection_in around.statements (dotted name port))) (clock_inputs m.ports)
 
@@ -43,7 +43,7 @@ clocks_given around name m = map (λ port. clock_connected around (connection_in
 abbrev pub clocks_of_top : ModuleTree → List (Option ℕ)
 clocks_of_top m = clocks_from 0 (length (clock_inputs m.ports))
 
--- for each Clock input of the module at a place, from which these steps lead to the top, that of what holds it
+-- for each Clock input of the module at a place, the Clock input of what holds it that it follows, where these steps lead to the top
 abbrev pub clocks_around : List ModuleTree → ℕ → List Step → List (Option ℕ)
 clocks_around modules number [] = clocks_of_top (module_at modules number)
 clocks_around modules number (step ∷ steps) = clocks_given (module_at modules step.number) step.name (module_at modules number)
@@ -60,6 +60,6 @@ clocks_led modules number (step ∷ steps) =
 abbrev pub own_clocks : List ModuleTree → Site → List (Option ℕ)
 own_clocks modules site = clocks_around modules site.number site.steps
 
--- the same, the clock of the circuit
+-- for each Clock input of a site, in port order, the clock of the circuit that it follows
 abbrev pub site_clocks : List ModuleTree → Site → List (Option ℕ)
 site_clocks modules site = clocks_led modules site.number site.steps

@@ -27,7 +27,7 @@ connection_by name says.Skip = None
 connection_by name (says.Stop clock condition code label) = None
 connection_by name (says.Report word arguments label) = None
 
--- what the first statement that connects it connects it to
+-- what the first statement that connects this sink connects it to
 abbrev pub connection_in : List Stmt → List ℕ → Option Connection
 connection_in [] name = None
 connection_in (s ∷ ss) name = or_else (connection_by name s.kind) (connection_in ss name)

@@ -21,12 +21,12 @@ capped n = min n (2 ^ 64 - 1)
 
 -- ---- memories
 
--- the first value, if there is one, else the second
+-- the first value, if there is one, otherwise the second
 abbrev pub first_of : Option ℕ → ℕ → ℕ
 first_of None other = other
 first_of (Some n) other = n
 
--- a memory's depth: what the first field that gives a depth gives; 0 if none does
+-- a memory's depth: of the first field that has one; 0 if none has
 abbrev pub depth_of_fields : List Field → ℕ
 depth_of_fields [] = 0
 depth_of_fields (f ∷ fs) = first_of (depth_said f.kind) (depth_of_fields fs)
@@ -53,13 +53,13 @@ abbrev pub deep_in : List Stmt → Option ℕ
 deep_in [] = None
 deep_in (s ∷ ss) = if nat_lt 65536 (words_of_kind s.kind) then Some (words_of_kind s.kind) else deep_in ss
 
--- that depth if the module is reached, else what follows
+-- the depth if the module is reached and there is one, otherwise what follows
 abbrev pub deep_or : Bool → Option ℕ → Option ℕ → Option ℕ
 deep_or true (Some depth) later = Some depth
 deep_or true None later = later
 deep_or false depth later = later
 
--- the same for the modules from place k on that are reached
+-- the depth of the first memory that is too deep in a reached module; the first of these modules is at place k
 abbrev pub deep_from : (ℕ → Bool) → ℕ → List ModuleTree → Option ℕ
 deep_from reached k [] = None
 deep_from reached k (m ∷ ms) = deep_or (reached k) (deep_in m.statements) (deep_from reached (suc k) ms)
@@ -97,7 +97,7 @@ counts_of modules own k = counts_over modules own (all_sites modules k)
 abbrev pub excess_of : Measure → ℕ → Option Excess
 excess_of measure count = Some (record { measure = measure; count = count })
 
--- a memory that is too deep, else what follows
+-- a memory that is too deep, otherwise what follows
 abbrev pub memory_or : Option ℕ → Option Excess → Option Excess
 memory_or None other = other
 memory_or (Some depth) other = excess_of Memory depth

@@ -1,6 +1,6 @@
--- The signals and memories of a circuit: those of the top and of every instance below it, by their paths.
--- Source: FIRRTL Specification, "Circuits and Modules", "Instances", "Memories", "Connects". An instance's input is
--- connected in the module that holds the instance, as i.p. Every other sink is connected in its own module.
+-- The signals and memories of a circuit: of the top and of every instance below it, by their paths.
+-- Source: FIRRTL Specification, "Circuits and Modules", "Instances", "Memories", "Connects". An instance's input is connected in the module
+-- that holds the instance, as i.p. Every other sink is connected in its own module.
 use Rattle.std.specs.Prelude.{ℕ, List, Option, Some, None, map, flat_map, codes}
 use Rattle.gg_bits.specs.Shape.{Shape}
 use Rattle.gg_ast.specs.declared.statement.Reset.{Reset}
@@ -49,7 +49,7 @@ input_drive modules None name = Outside
 input_drive modules (Some outer) name =
     Gets (scope_around outer) (connection_in (module_at modules outer.number).statements (dotted outer.name name))
 
--- what gives the signal of this name at a site its value, by what its module says of it
+-- what gives the signal of this name at a site its value, by its cause in the module
 abbrev pub drive_of : List ModuleTree → Site → List ℕ → Cause → Drive
 drive_of modules site name FromOutside = input_drive modules site.outer name
 drive_of modules site name Connected = Gets (scope_at site) (connection_in (module_at modules site.number).statements name)
@@ -65,11 +65,11 @@ abbrev pub flat_signal : List ModuleTree → Site → Own → FlatSignal
 flat_signal modules site o =
     record { path = joined site.path o.name; shape = o.shape; drive = drive_of modules site o.name o.cause }
 
--- the signals of a site, in the order in which its module has them
+-- the signals of a site, in its module's order
 abbrev pub signals_at : Types → List ModuleTree → Site → List FlatSignal
 signals_at types modules site = map (flat_signal modules site) (own_signals types site.number (module_at modules site.number))
 
--- the signals of all sites, those of one site after those of another
+-- the signals of all sites, site by site
 abbrev pub flat_signals : Types → List ModuleTree → List Site → List FlatSignal
 flat_signals types modules all = flat_map (signals_at types modules) all
 
@@ -99,7 +99,7 @@ flat_memory modules site own =
 abbrev pub memories_at : List ModuleTree → Site → List FlatMemory
 memories_at modules site = map (flat_memory modules site) (own_banks (module_at modules site.number).statements)
 
--- the memories of all sites: those of a site before those of the sites below it, wherever its module declares them
+-- the memories of all sites: a site's before its sites below, wherever its module declares them
 abbrev pub flat_memories : List ModuleTree → List Site → List FlatMemory
 flat_memories modules all = flat_map (memories_at modules) all
 
@@ -109,6 +109,6 @@ flat_memories modules all = flat_map (memories_at modules) all
 abbrev pub stop_paths_at : List ModuleTree → Site → List (List ℕ)
 stop_paths_at modules site = map (λ stop. joined site.path stop.name) (own_stops (module_at modules site.number).statements)
 
--- the paths of the stops of all sites: those of a site before those of the sites below it
+-- the paths of the stops of all sites: a site's before its sites below
 abbrev pub stop_paths : List ModuleTree → List Site → List (List ℕ)
 stop_paths modules all = flat_map (stop_paths_at modules) all

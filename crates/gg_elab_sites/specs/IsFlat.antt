@@ -1,7 +1,7 @@
--- When a flat circuit is that of a circuit.
--- Source: FIRRTL Specification, "Circuits and Modules", "Instances", "Statements", "Memories", "Connects",
--- "Invalidates", "Stop". It has the signals, registers, memories, ports and clocks of the circuit's sites, and nothing
--- more. There is only one: of each line its nodes are fixed, besides its value and the signals that it names.
+-- Which flat circuit a circuit has.
+-- Source: FIRRTL Specification, "Circuits and Modules", "Instances", "Statements", "Memories", "Connects", "Invalidates", "Stop". It has
+-- the signals, registers, memories, ports and clocks of the circuit's sites, and nothing more. There is only one, because the nodes of each
+-- line are fixed, not only its value and the signals that it names.
 use Rattle.std.specs.Prelude.{◌≡◌, ℕ, ◌<◌, ◌↔◌, List, [], ◌++◌, Option, Some, None, Bool, true, false, MatchOption, length, map, take, filter_map, count_by, slice_index_or, unwrap_or, if◌then◌else◌, ◌&&◌, is_some, codes}
 use Rattle.gg_bits.specs.Shape.{Shape, shape}
 use Rattle.gg_ast.specs.declared.module.Direction.{Direction}
@@ -98,7 +98,7 @@ is_register (Gets scope c) = false
 is_register (Holds scope reset next own clock) = true
 is_register (Answers memory place latency addr en) = false
 
--- the drive of signal s, as it is listed; past the end that of an input
+-- the drive of signal s, as it is listed; past the end the drive of an input
 abbrev pub drive_at : List FlatSignal → ℕ → Drive
 drive_at all s = slice_index_or (map (λ x. x.drive) all) s Outside
 
@@ -165,7 +165,7 @@ writer_of paths said port =
       clock = said.clock port;
     }
 
--- The flat circuit's memory is the one that the fields of a memory make, with the same readers and writers, each in the order of the file.
+-- The flat circuit's memory is what the fields of a memory make, with the same readers and writers, each in the order of the file.
 pub record IsMemoryOf (paths : List (List ℕ)) (said : FlatMemory) (memory : Memory) : Type 0 where
   pub word : shape memory.word ≡ said.bank.word
   pub depth : memory.depth ≡ said.bank.depth
@@ -205,7 +205,7 @@ signals_of all = record { paths = map (λ x. x.path) all; shapes = map (λ x. x.
 abbrev pub memory_paths : List FlatMemory → List (List ℕ)
 memory_paths banks = map (λ x. x.path) banks
 
--- what the names of a circuit with these signals and memories stand for
+-- the meaning of names in a circuit with these signals and memories
 abbrev pub bindings_of : Types → List FlatSignal → List FlatMemory → Bindings
 bindings_of types all banks = record { types = types; signals = signals_of all; memories = memory_paths banks }
 
@@ -220,7 +220,7 @@ pub record IsFlatOf (types : Types) (all : List FlatSignal) (banks : List FlatMe
   pub memory_count : length flat.memories ≡ length banks
   pub memories : (m : ℕ) (said : FlatMemory) (any : Memory) → m < length banks → IsMemoryOf (signals_of all).paths (slice_index_or banks m said) (slice_index_or flat.memories m any)
   pub ins : flat.ins ≡ map (number_of (signals_of all).paths) (port_names direction.Input ports)
-  -- the outputs in port order, and the stops behind them
+  -- the outputs in port order, followed by the stops
   pub outs : flat.outs ≡ map (number_of (signals_of all).paths) (port_names direction.Output ports ++ stops)
   pub clocks : flat.clocks ≡ length (clock_inputs ports)
 

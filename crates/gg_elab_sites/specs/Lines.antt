@@ -1,8 +1,6 @@
--- How an expression is laid out as a line: a node for each of its parts, behind the nodes of its operands, which stand
--- from left to right. The last node stands for the whole (postfix order). The values and the names of such a line are
--- said apart, by what the expression means.
--- Source: FIRRTL Specification, "Expressions", "Primitive Operations": an operation's operands are in the order of its
--- arguments.
+-- How an expression is laid out as a line: a node for each of its parts, after the nodes of its operands from left to right. The last node
+-- is the node of the whole (postfix order). The values and the names of such a line are defined apart, by what the expression means.
+-- Source: FIRRTL Specification, "Expressions", "Primitive Operations": an operation's operands are in the order of its arguments.
 use Rattle.std.specs.Prelude.{ℕ, ◌-◌, List, [], ◌∷◌, ◌++◌, Option, Some, None, Bool, true, false, Result, Ok, Err, length, map}
 use Rattle.gg_bits.specs.declared.types.Bad.{Bad}
 use Rattle.gg_bits.specs.Shape.{Shape, shape, uint}
@@ -36,7 +34,7 @@ laid line = map laid_node line
 abbrev pub with_laid : List Laid → Shape → Op → List Laid
 with_laid line sort op = line ++ (record { shape = sort; op = op }) ∷ []
 
--- the same with a literal
+-- a line with one more node, a literal
 abbrev pub with_number : List Laid → Shape → ℕ → List Laid
 with_number line sort number = with_laid line sort (Literal (record { 0 = number }))
 
@@ -61,7 +59,7 @@ last_of line = length line - 1
 
 -- ---- lines
 
--- a line with the nodes of an expression behind it
+-- a line followed by the nodes of an expression
 abbrev pub with_term : Context → List Laid → Term → List Laid
 with_term context line (NamedTerm r) = with_signal context.bindings.signals line (named context r)
 with_term context line (ConstantTerm l) = with_literal line (literal_shape l) (literal_value l)
@@ -81,7 +79,7 @@ with_term context line (MuxTerm c a b) =
     let z = with_term context y b in
     with_result z (type_mux (term_shape context c) (term_shape context a) (term_shape context b)) (Mux (last_of x) (last_of y) (last_of z))
 
--- a line whose value can be taken, else with a 0 of this shape at its end
+-- a line if its value can be taken, otherwise the line followed by a 0 of this shape
 abbrev pub cut_line : Bool → Shape → List Laid → List Laid
 cut_line true sink line = line
 cut_line false sink line = with_number line sink 0

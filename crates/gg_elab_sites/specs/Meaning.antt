@@ -1,10 +1,9 @@
--- What an expression means at a site of the circuit: its shape and its value, by the signals of the whole circuit. A
--- name stands for the signal whose path is the site's path followed by the name.
--- Source: FIRRTL Specification, "Expressions" (references, literals, primitive operations, multiplexers), "Primitive
--- Operations", "Connects". The shape and the value of each operation are those of gg_bits.
--- The definitions are total. A reference that names nothing is the UInt<1> 0. So is a literal that doesn't fit, and
--- an operation that doesn't take its operands. A source that a sink can't take is 0. None of these occurs in a
--- circuit that passed the checks.
+-- What an expression means at a site of the circuit: its shape and its value, by the signals of the whole circuit. A name means the signal
+-- with the site's path followed by the name.
+-- Source: FIRRTL Specification, "Expressions" (references, literals, primitive operations, multiplexers), "Primitive Operations",
+-- "Connects". The shape and the value of each operation are defined in gg_bits. The definitions are total. A reference that names nothing
+-- is the UInt<1> 0, and so are a literal that doesn't fit and an operation that doesn't take its operands. A source that a sink can't take
+-- is 0. None of these occurs in a circuit that passed the checks.
 use Rattle.std.specs.Prelude.{◌≡◌, ℕ, List, Option, Some, None, Bool, ◌&&◌, Result, Ok, Err, nat_le, is_some, unwrap_or, ◌⊎◌, if◌then◌else◌}
 use Rattle.gg_bits.specs.declared.types.Bad.{Bad}
 use Rattle.gg_bits.specs.Shape.{Shape, uint}
@@ -28,19 +27,18 @@ pub record Signals : Type 0 where
   pub paths : List (List ℕ)
   pub shapes : List Shape
 
--- what the names of a circuit stand for: the shapes that the type checks give them, the signals, and the paths of the
--- memories
+-- the meaning of a circuit's names: the shapes that the type checks give them, the signals, and the paths of the memories
 pub record Bindings : Type 0 where
   pub types : Types
   pub signals : Signals
   pub memories : List (List ℕ)
 
--- the same where a name is written
+-- the meaning of names, and the scope where they are written
 pub record Context : Type 0 where
   pub bindings : Bindings
   pub scope : Scope
 
--- what the names stand for where they are written in this scope
+-- the meaning of names where they are written in this scope
 abbrev pub in_scope : Bindings → Scope → Context
 in_scope bindings scope = record { bindings = bindings; scope = scope }
 
@@ -82,7 +80,7 @@ abbrev pub value_if : Result Shape Bad → ℕ → ℕ
 value_if (Ok s) value = value
 value_if (Err bad) value = 0
 
--- the shape of an expression, from those of its parts
+-- the shape of an expression, from the shapes of its parts
 abbrev pub term_shape : Context → Term → Shape
 term_shape context (NamedTerm r) = shape_named context.bindings.signals (named context r)
 term_shape context (ConstantTerm l) = shape_of_literal l

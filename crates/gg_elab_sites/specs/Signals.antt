@@ -72,7 +72,7 @@ writer_signals memory bank port =
     ∷ own (field_name memory port (codes "mask")) Connected (uint 1)
     ∷ []
 
--- the fields of the readers from a place on
+-- the fields of these readers; the first reader is at this place
 abbrev pub readers_signals : List ℕ → Bank → ℕ → List (List ℕ) → List Own
 readers_signals memory bank place [] = []
 readers_signals memory bank place (port ∷ ports) = reader_signals memory bank place port ++ readers_signals memory bank (suc place) ports
@@ -116,7 +116,7 @@ pub record OwnStop : Type 0 where
 abbrev pub stop_name : ℕ → List ℕ
 stop_name k = codes "stop:" ++ decimal k
 
--- what a statement asks if it is a stop; nothing otherwise
+-- what a stop says; none for any other statement
 abbrev pub stop_of_kind : StmtKind → Option Asked
 stop_of_kind (says.Wire name ty) = None
 stop_of_kind (says.Node name value) = None
@@ -129,7 +129,7 @@ stop_of_kind says.Skip = None
 stop_of_kind (says.Stop clock condition code label) = Some (record { clock = clock; condition = condition })
 stop_of_kind (says.Report word arguments label) = None
 
--- stops numbered from k on
+-- stops, numbered starting at k
 abbrev pub numbered : ℕ → List Asked → List OwnStop
 numbered k [] = []
 numbered k (asked ∷ rest) = record { name = stop_name k; asked = asked } ∷ numbered (suc k) rest
@@ -148,7 +148,7 @@ stop_signal stop = own stop.name (Expressed stop.asked.condition) (uint 1)
 abbrev pub statement_signals : Types → ℕ → List Stmt → List Own
 statement_signals types k statements = flat_map (λ (s : Stmt). own_of_kind types k s.kind) statements ++ map stop_signal (own_stops statements)
 
--- the signals of the module at place k: its ports, and then those of its statements
+-- the signals of the module at place k: of its ports, and then of its statements
 abbrev pub own_signals : Types → ℕ → ModuleTree → List Own
 own_signals types k m = filter_map own_of_port m.ports ++ statement_signals types k m.statements
 

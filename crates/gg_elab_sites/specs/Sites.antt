@@ -56,9 +56,9 @@ pub record Step : Type 0 where
   pub number : ℕ
   pub name : List ℕ
 
--- A place where a module stands: the top, or an instance. Its path has the names of the instances from the top down,
--- with dots between them. The top's path is empty. `number` is its module's place in the file, `depth` the number of
--- sites above it, and `steps` lead from it up to the top.
+-- A place of a module in the circuit: the top, or an instance. Its path has the names of the instances from the top down, with dots between
+-- them. The top's path is empty. `number` is its module's place in the file, `depth` the number of sites above it, and `steps` lead from it
+-- up to the top.
 pub record Site : Type 0 where
   pub path : List ℕ
   pub number : ℕ
@@ -98,6 +98,6 @@ abbrev pub sites_from : List ModuleTree → Option ℕ → List Site
 sites_from modules None = []
 sites_from modules (Some k) = all_sites modules k
 
--- the sites of a circuit, whose top is the first module of its name
+-- the sites of a circuit; its top is the first module of its name
 abbrev pub sites_of : CircuitTree → List Site
 sites_of circuit = sites_from circuit.modules (place_of circuit.name (module_names circuit))

@@ -107,7 +107,7 @@ impl<'a> Sinks<'a> {
         requires { length self.now.sources.items ≡ length self.now.names }
         ensures { seen result ≡ source_at self.now.sources.items (place_of name.now self.now.names) }
     {
-        // for the invariant alone
+        // for the invariant only
         let _ = self.names.len();
         match self.names.find(name) {
             Some(place) => Some(self.sources[place as usize]),

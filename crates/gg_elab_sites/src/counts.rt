@@ -152,7 +152,7 @@ fn own_words(alloc: Global, modules: &[Module]) -> Result<Vec<u64>, AllocError>
     Ok(words)
 }
 
-// For each module: its place if it has a memory that is too deep, else a number that isn't a place.
+// For each module: its place if it has a memory that is too deep, otherwise a number that isn't a place.
 fn own_deep(alloc: Global, modules: &[Module]) -> Result<Vec<u64>, AllocError>
     ensures { IfOk result (λ places. places.items ≡ deep_places 0 modules.now) }
 {
@@ -163,7 +163,7 @@ fn own_deep(alloc: Global, modules: &[Module]) -> Result<Vec<u64>, AllocError>
     Ok(places)
 }
 
-// The place if a memory is too deep, else a number that isn't a place.
+// The place if a memory is too deep, otherwise a number that isn't a place.
 fn deep_place(place: usize, statements: &[Stmt]) -> u64
     ensures { result ≡ deep_place place statements.now }
 {
@@ -196,7 +196,7 @@ fn copy_of(alloc: Global, values: &[u64]) -> Result<Vec<u64>, AllocError>
     Ok(copy)
 }
 
-// The value of the module at a place, with those of all modules below it.
+// The value of the module at a place, combined with the values of all modules below it.
 fn gather_at(circuit: &Circuit, order: &[u32], place: usize, how: Gathering, own: Vec<u64>) -> u64
     requires few { length circuit.now.modules < 2 ^ 32 }
     requires order { IsOrderOf (HoldsModule circuit.now.modules) (length circuit.now.modules) order.now }
@@ -293,7 +293,7 @@ fn instance_total(
     Ok(total)
 }
 
-/// The counts of a circuit whose top is the module at place `top`. `own_signals` has the number of each module's own
+/// The counts of a circuit with the module at place `top` as its top. `own_signals` has the number of each module's own
 /// signals. The order has each module after all modules that it holds.
 ///
 /// # Errors

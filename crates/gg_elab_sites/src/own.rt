@@ -19,9 +19,9 @@ use std::alloc::{AllocError, Global};
 /// What gives a signal its value, as its module says.
 #[derive(Clone, Copy)]
 pub enum Origin<'a> {
-    /// An input port: whatever holds the module.
+    /// An input port: its value comes from what holds the module.
     FromOutside,
-    /// An output port, a wire, or a field that is given to a memory: a connection.
+    /// An output port, a wire, or a field that is given to a memory: its connection.
     Connected,
     /// A node, or a stop's condition: an expression.
     Expressed(&'a Expr),

@@ -7,7 +7,7 @@ ghost use Rattle.gg_elab_sites.specs.inside.Graph.{gathered, gathered_over, valu
 
 use gg_ast::{Circuit, Stmt, StmtKind};
 
-// How a module's value is made from its own value and those of the modules that it holds.
+// How a module's value is made from its own value and the values of the modules that it holds.
 #[derive(Clone, Copy)]
 pub(crate) enum Gathering {
     // The sum, which saturates.
@@ -19,7 +19,7 @@ pub(crate) enum Gathering {
 }
 
 impl Gathering {
-    // A module's value, combined with that of one module that it holds.
+    // A module's value, combined with the value of one module that it holds.
     fn gather(self, own: u64, below: u64) -> u64
         ensures { result ≡ gathered self own below }
     {
@@ -31,7 +31,7 @@ impl Gathering {
     }
 }
 
-// A module's own value, combined with those of the instances that these statements make. `values` has a value for
+// A module's own value, combined with the values of the instances that these statements make. `values` has a value for
 // each module.
 pub(crate) fn gather_over(
     circuit: &Circuit,
@@ -51,7 +51,7 @@ pub(crate) fn gather_over(
     value
 }
 
-// The same for one statement.
+// A module's own value, combined with the value of the instance that a statement makes, if it makes one.
 fn gather_kind(circuit: &Circuit, kind: &StmtKind, values: &[u64], how: Gathering, own: u64) -> u64
     requires few { length circuit.now.modules < 2 ^ 32 }
     requires values { length values.now ≡ length circuit.now.modules }
@@ -66,9 +66,9 @@ fn gather_kind(circuit: &Circuit, kind: &StmtKind, values: &[u64], how: Gatherin
     }
 }
 
-// The value of each module, with those of all modules below it. `own` has each module's own value. The order has
-// each module after all modules that it holds. This holds for every number of levels that is at least the number of
-// modules minus one.
+// The value of each module, combined with the values of all modules below it. `own` has each module's own value. The
+// order has each module after all modules that it holds. This holds for every number of levels that is at least the
+// number of modules minus one.
 pub(crate) fn gather(circuit: &Circuit, order: &[u32], how: Gathering, own: Vec<u64>) -> Vec<u64>
     requires few { length circuit.now.modules < 2 ^ 32 }
     requires order { IsOrderOf (HoldsModule circuit.now.modules) (length circuit.now.modules) order.now }

@@ -100,7 +100,7 @@ impl Drop for Above<'_> {
     }
 }
 
-// The steps of an instance from which one more step leads to these.
+// A step, followed by these steps.
 fn steps_with<'a>(
     alloc: Global,
     step: Step<'a>,
@@ -228,7 +228,7 @@ fn add_site<'a>(
     Ok(())
 }
 
-// The top, whose module is at this place, as a site.
+// The top as a site; its module is at this place.
 fn top_place<'a>(alloc: Global, typed: &Typed, top: u32) -> Result<Place<'a>, AllocError>
     requires { top < length typed.now.circuit.modules }
     ensures { IfOk result (λ place. IsPlaceIn typed.now.circuit.modules place × (site_of place ≡ top_site top)) }
@@ -247,7 +247,7 @@ fn top_place<'a>(alloc: Global, typed: &Typed, top: u32) -> Result<Place<'a>, Al
     })
 }
 
-/// The sites of a circuit whose top is the module at this place.
+/// The sites of a circuit with the module at this place as its top.
 ///
 /// # Errors
 ///

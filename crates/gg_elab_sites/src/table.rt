@@ -128,7 +128,7 @@ pub fn table_of(
 pub fn number(paths: &Paths, path: &Name) -> u32
     ensures { result ≡ number_of paths.now path.now }
 {
-    // for the invariant alone
+    // for the invariant only
     let _ = paths.len();
     match paths.find(path) {
         Some(number) => number,

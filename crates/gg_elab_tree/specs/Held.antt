@@ -11,6 +11,6 @@ pub record HasOneHolder (circuit : FlatCircuit) (r : ℕ) : Type 0 where
   pub holds : driver_at circuit signal ≡ Held r
   pub only : (s : ℕ) → s < length circuit.signals → driver_at circuit s ≡ Held r → s ≡ signal
 
--- the same for each register
+-- `HasOneHolder` for each register
 abbrev pub AreHeldOnce : FlatCircuit → Type 0
 AreHeldOnce circuit = (r : ℕ) → r < length circuit.registers → HasOneHolder circuit r

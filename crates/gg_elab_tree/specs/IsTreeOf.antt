@@ -1,6 +1,6 @@
--- When a tree of instances is that of a circuit.
--- Source: FIRRTL Specification, "Instances": the top and, below it, the instances that each module holds; "Memories";
--- "Registers"; "Stop"; "Clock" types: what each of these follows.
+-- Which tree of instances a circuit has.
+-- Source: FIRRTL Specification, "Instances": the top and, below it, the instances that each module holds; "Memories"; "Registers"; "Stop";
+-- "Clock" types: what each of these follows.
 use Rattle.std.specs.Prelude.{◌≡◌, ℕ, ◌+◌, ◌-◌, List, [], ◌∷◌, ◌++◌, Option, Some, None, Bool, true, false, length, map, flat_map, filter, is_some}
 use Rattle.gg_ast.specs.declared.module.Direction.{Direction}
 use Rattle.gg_ast.specs.declared.module.Direction.TheVariants.{Input, Output}
@@ -34,7 +34,7 @@ Pairwise R [] (y ∷ ys) = ⊥
 Pairwise R (x ∷ xs) [] = ⊥
 Pairwise R (x ∷ xs) (y ∷ ys) = R x y × Pairwise R xs ys
 
--- the paths of the sites, of the signals and of the memories
+-- the paths of all sites of the circuit, in order
 abbrev pub site_paths : CircuitTree → List (List ℕ)
 site_paths circuit = map (λ s. s.path) (sites_of circuit)
 
@@ -59,12 +59,12 @@ IsParent circuit (Some outer) (Some parent) = IsAt (site_paths circuit) outer.pa
 abbrev pub signal_ports : ModuleTree → List Port
 signal_ports m = filter (λ port. is_some (type_shape port.ty)) m.ports
 
--- whether a direction is that of an input
+-- whether a direction is an input's
 abbrev pub is_input : Direction → Bool
 is_input Input = true
 is_input Output = false
 
--- a port of an instance: its signal is the one with the port's path
+-- a port of an instance: its signal has the port's path
 pub record IsPortFor (circuit : CircuitTree) (site : Site) (port : Port) (found : InstancePort) : Type 0 where
   pub signal : IsAt (signal_paths circuit) (joined site.path port.name) found.signal
   pub goes : found.is_input ≡ is_input port.direction
@@ -81,8 +81,8 @@ signal_count circuit all = length (flat_signals (types_of circuit) circuit.modul
 abbrev pub sites_within : CircuitTree → Site → List Site
 sites_within circuit site = sites (length circuit.modules - site.depth) circuit.modules site
 
--- An instance: its parent, its module, its ports in port order, its own memories, what its Clock inputs follow, and its
--- signals with those below it. These signals are the next ones from `first` on.
+-- An instance: its parent, its module, its ports in port order, its own memories, what its Clock inputs follow, and its signals with those
+-- below it. These signals are the next ones, starting at `first`.
 pub record IsInstanceFor (circuit : CircuitTree) (first : ℕ) (site : Site) (instance : Instance) : Type 0 where
   pub parent : IsParent circuit site.outer instance.parent
   pub number : instance.«module» ≡ site.number
@@ -126,14 +126,14 @@ held_memories modules site = map (held_memory site) (memories_at modules site)
 
 -- ---- registers
 
--- the Clock input of its site that a register follows, of what gives a signal its value
+-- the Clock input of its site that a register with this drive follows; none for any other drive
 abbrev pub clock_held : Drive → List (Option ℕ)
 clock_held Outside = []
 clock_held (Gets scope c) = []
 clock_held (Holds scope reset next own clock) = own ∷ []
 clock_held (Answers memory place latency addr en) = []
 
--- those of all registers among these signals
+-- the Clock inputs that all registers among these signals follow
 abbrev pub clocks_held : List FlatSignal → List (Option ℕ)
 clocks_held all = flat_map (λ s. clock_held s.drive) all
 

@@ -1,4 +1,4 @@
-//! The tree of a circuit beside its flat circuit.
+//! The tree of a circuit fits its flat circuit.
 ghost use Rattle.std.specs.Prelude.{◌≢◌, None};
 ghost use Rattle.gg_ast.specs.Places.{place_of};
 ghost use Rattle.gg_ast.specs.Tree.{module_names};
@@ -24,7 +24,7 @@ pub fn fits(typed: &Typed, piece: &Piece, tree: &Tree)
 {
     let circuit = typed.names().circuit();
     circuit.names_are_words();
-    // for the invariant alone
+    // for the invariant only
     let _ = piece.signal_count();
     let _ = tree.len();
     let _ = tree.memory_count();

@@ -21,6 +21,6 @@ pub fn formed(typed: &Typed, piece: &Piece)
 {
     let circuit = typed.names().circuit();
     circuit.names_are_words();
-    // for the invariant alone
+    // for the invariant only
     let _ = piece.signal_count();
 }

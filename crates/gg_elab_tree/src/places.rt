@@ -12,7 +12,7 @@ pub(crate) fn place_at(paths: &Paths, path: &Name) -> u32
     requires there { Contains paths.now path.now }
     ensures { IsAt paths.now path.now result }
 {
-    // for the invariant alone
+    // for the invariant only
     let _ = paths.len();
     let Some(place) = paths.find(path) else {
         unreachable!();

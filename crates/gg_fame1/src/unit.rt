@@ -23,6 +23,20 @@ use std::sync::ledger::Ledger;
 
 /// A piece of a cut circuit as a machine of its own. It is a host of one thread. Its ins are the piece's in-signals,
 /// and its outs are the out-signals, both in port order. A contract sees it as a host that several threads could share.
+///
+/// # Examples
+///
+/// ```
+/// // The piece has an in-signal of 4 bits, and the out-signal is `not` of it.
+/// let program = Program::of(alloc, &piece)?;
+/// let mut unit = Unit::with_clocks(alloc, program, &[])?;
+/// unit.missing(0, 0); // Some(0): out 0 waits for in 0
+/// unit.latch(0, 0, 0b0101);
+/// unit.missing(0, 0); // None
+/// unit.fire(0, 0); // 0b1010
+/// unit.finish(0);
+/// unit.cycle(0); // 1
+/// ```
 pub struct Unit<'a> {
     shared: Shared<'a>,
 }
@@ -95,9 +109,9 @@ impl<'a> Unit<'a> {
         self.shared.state(thread)
     }
 
-    /// The token that an out would give. Changes no machine. The steps are evaluated assignments: together with those
-    /// that have still to be evaluated afterwards, there are no more than there were to be evaluated before. All that
-    /// the out reaches is done afterwards. If it was done before, nothing is evaluated.
+    /// The token that an out would give. Changes no machine. The steps are evaluated assignments. They and the
+    /// assignments that have still to be evaluated afterwards are no more than had to be evaluated before. All that the
+    /// out reaches is done afterwards. If it was done before, nothing is evaluated.
     pub fn token_once<L: Ledger>(&mut self, thread: u32, place: u32, steps: &mut Steps<L>) -> u128
         requires thread { thread < length (machines_of self.old) }
         requires may { MayFire (machine_at (machines_of self.old) thread) place }

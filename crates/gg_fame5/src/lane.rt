@@ -187,7 +187,7 @@ impl Lane {
         ensures cone { IsConeDone program.now.circuit (out_signal program.now.circuit self.now place) slots.new }
         ensures still { IsConeDone program.now.circuit (out_signal program.now.circuit self.now place) slots.old → steps.new ≡ steps.old }
     {
-        // for the invariant alone
+        // for the invariant only
         let _ = program.piece();
         program.cone_once(&self.state, slots, self.out(program, place), steps)
     }
@@ -208,7 +208,7 @@ impl Lane {
         ensures held { Hold program.now.circuit slots.new self.new }
         ensures unset { unset program.now.circuit slots.new ≤ unset program.now.circuit slots.old }
     {
-        // for the invariant alone
+        // for the invariant only
         let _ = program.piece();
         program.put(slots, place, token);
         self.keep(place, token);
@@ -249,7 +249,7 @@ impl Lane {
         ensures held { Hold program.now.circuit slots.new self.new }
         ensures steps { steps.new ≤ steps.old + unset program.now.circuit slots.old }
     {
-        // for the invariant alone
+        // for the invariant only
         let _ = program.piece();
         settled_once();
         program.next_once(&mut self.state, slots, self.timing.edges(), steps);
@@ -258,7 +258,7 @@ impl Lane {
         self.timing.advance();
     }
 
-    // Makes slots hold this lane: those inputs are put that have tokens, and nothing else is done.
+    // Makes slots hold this lane: exactly the inputs with tokens are put, and no other signal is done.
     pub(crate) fn load(&self, program: &Program<'_>, slots: &mut Slots)
         requires lane { IsLane program.now.circuit self.now }
         requires slots { AreSlots program.now.circuit slots.old }

@@ -1,4 +1,4 @@
-//! Lanes and states with which threads begin.
+//! The lanes and states that threads begin with.
 ghost use Rattle.std.specs.Prelude.{◌≡◌, ◌<◌, ◌≤◌, ◌++◌, [], ◌∷◌, Some, All, length, replicate, slice_index_or, IfOk};
 ghost use Rattle.std.specs.Vec.{vec_capacity};
 ghost use Rattle.gg_bits.specs.Limits.{cycle_limit};

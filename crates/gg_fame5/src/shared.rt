@@ -24,8 +24,22 @@ use std::alloc::Global;
 use std::marker::{Brand, Model};
 use std::sync::ledger::{Blank, Ledger};
 
-/// Several threads of one program. Its machines are those of its threads. The slots hold the thread whose turn it is. A
-/// contract sees the program, the lanes of the threads, whose turn it is and the slots.
+/// Several threads of one program, each with a machine. The slots hold the thread that has the turn. A contract sees
+/// the program, the lanes of the threads, the thread that has the turn, and the slots.
+///
+/// # Examples
+///
+/// ```
+/// // The piece has one register, which takes the token of in 0 in each cycle and is out 0. Both threads have out 0.
+/// let program = Program::of(alloc, &piece)?;
+/// let mut shared = Shared::with_clocks(alloc, program, &outs, &ratios)?;
+/// shared.latch(0, 0, 5);
+/// shared.fire(0, 0); // 0: the register of thread 0 begins with 0
+/// shared.finish(0);
+/// shared.fire(0, 0); // 5
+/// shared.cycle(0); // 1
+/// shared.cycle(1); // 0: nothing has changed the machine of thread 1
+/// ```
 pub struct Shared<'a> {
     program: Program<'a>,
     lanes: Vec<Lane>,
@@ -58,9 +72,9 @@ impl<'a> Model for Shared<'a> {
 }
 
 impl<'a> Shared<'a> {
-    /// Threads of a program, before the first cycle. Each has a list in `outs`, of the program's outs that its outs are,
-    /// and a list in `ratios`, with a ratio for each clock of the piece. There is at least one thread, and there are
-    /// fewer than 2^32.
+    /// Threads of a program, before the first cycle. For each thread `outs` lists which outs of the program its outs
+    /// are, and `ratios` has a ratio for each clock of the piece. There is at least one thread, and there are fewer
+    /// than 2^32.
     ///
     /// # Errors
     ///
@@ -191,7 +205,7 @@ impl<'a> Shared<'a> {
         }
     }
 
-    // The token of an out of the thread whose turn it is.
+    // The token of an out of the thread that has the turn.
     fn value<L: Ledger>(&mut self, place: u32, steps: &mut Steps<L>) -> u128
         requires { MayFire (lane_machine self.old.program (lane_at self.old.lanes self.old.turn)) place }
         ensures token { IsToken (lane_machine self.old.program (lane_at self.old.lanes self.old.turn)) place result }
@@ -205,7 +219,7 @@ impl<'a> Shared<'a> {
         self.lanes[self.turn as usize].token(&self.program, &mut self.slots, place, steps)
     }
 
-    // Puts a token into the latch of an in of the thread whose turn it is.
+    // Puts a token into the latch of an in of the thread that has the turn.
     fn put(&mut self, place: u32, token: u128)
         requires { MayLatch (lane_machine self.old.program (lane_at self.old.lanes self.old.turn)) place token }
         ensures program { self.new.program ≡ self.old.program }
@@ -216,7 +230,7 @@ impl<'a> Shared<'a> {
         self.lanes[self.turn as usize].latch(&self.program, &mut self.slots, place, token);
     }
 
-    // Puts a token into the latch of an in of a thread whose turn it isn't. The slots stay.
+    // Puts a token into the latch of an in of a thread that doesn't have the turn. The slots stay.
     fn keep(&mut self, thread: u32, place: u32, token: u128)
         requires thread { thread < length self.old.lanes }
         requires other { self.old.turn ≢ thread }
@@ -228,7 +242,7 @@ impl<'a> Shared<'a> {
         self.lanes[thread as usize].keep(place, token);
     }
 
-    // Sets the flag of an out of the thread whose turn it is.
+    // Sets the flag of an out of the thread that has the turn.
     fn flag(&mut self, place: u32)
         requires { place < length (lane_at self.old.lanes self.old.turn).flags }
         ensures program { self.new.program ≡ self.old.program }
@@ -239,7 +253,7 @@ impl<'a> Shared<'a> {
         self.lanes[self.turn as usize].set_flag(place);
     }
 
-    // Advances the thread whose turn it is to its next cycle.
+    // Advances the thread that has the turn to its next cycle.
     fn next<L: Ledger>(&mut self, steps: &mut Steps<L>)
         requires { MayFinish (lane_machine self.old.program (lane_at self.old.lanes self.old.turn)) }
         ensures program { self.new.program ≡ self.old.program }
@@ -250,9 +264,9 @@ impl<'a> Shared<'a> {
         self.lanes[self.turn as usize].finish(&self.program, &mut self.slots, steps);
     }
 
-    /// The token that an out of a thread would give. Changes no machine. The steps are evaluated assignments: together
-    /// with those that have still to be evaluated afterwards, there are no more than there were to be evaluated before.
-    /// All that the out reaches is done afterwards. If it was done before, nothing is evaluated.
+    /// The token that an out of a thread would give. Changes no machine. The steps are evaluated assignments. They and
+    /// the assignments that have still to be evaluated afterwards are no more than had to be evaluated before. All that
+    /// the out reaches is done afterwards. If it was done before, nothing is evaluated.
     pub fn token_once<L: Ledger>(&mut self, thread: u32, place: u32, steps: &mut Steps<L>) -> u128
         requires thread { thread < length (machines_of self.old) }
         requires may { MayFire (machine_at (machines_of self.old) thread) place }
@@ -323,25 +337,25 @@ impl<'a> Host for Shared<'a> {
     }
 
     fn due(&self, thread: u32) -> Option<u32> {
-        // for the invariant alone
+        // for the invariant only
         let _ = self.lane(thread);
         None
     }
 
     fn served(&self, thread: u32) -> u32 {
-        // for the invariant alone
+        // for the invariant only
         let _ = self.lane(thread);
         0
     }
 
     fn dues(&self, thread: u32) -> u32 {
-        // for the invariant alone
+        // for the invariant only
         let _ = self.lane(thread);
         0
     }
 
     fn port_count(&self, thread: u32) -> u32 {
-        // for the invariant alone
+        // for the invariant only
         let _ = self.lane(thread);
         0
     }
@@ -382,7 +396,7 @@ impl<'a> Host for Shared<'a> {
     }
 
     fn serve(&mut self, thread: u32, port: u32) {
-        // for the invariant alone
+        // for the invariant only
         let _ = self.lane(thread);
     }
 

@@ -8,7 +8,7 @@ use Rattle.gg_flat.specs.State.{State}
 use Rattle.gg_flat.specs.Settled.{driver_value}
 use Rattle.gg_flat.specs.Run.{Start, later, state_at, inputs_at}
 
--- the values, with that of signal s replaced by its driver's value
+-- the values, with the value of signal s replaced by its driver's value
 abbrev pub with_signal : FlatCircuit → State → List ℕ → List ℕ → ℕ → List ℕ
 with_signal circuit state inputs signals s = slice_set signals s (driver_value state inputs signals (shape_at (signal_shapes circuit) s) (driver_at circuit s))
 

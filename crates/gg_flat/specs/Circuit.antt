@@ -32,7 +32,7 @@ no_circuit = record { paths = []; signals = []; registers = []; memories = []; i
 abbrev pub signal_shapes : FlatCircuit → List Shape
 signal_shapes circuit = map (λ signal. shape signal.ty) circuit.signals
 
--- the driver of a signal; past the end that of an input
+-- the driver of a signal; past the end the driver of an input
 abbrev pub driver_at : FlatCircuit → ℕ → Driver
 driver_at circuit s = slice_index_or (map (λ signal. signal.driver) circuit.signals) s (Input 0)
 

@@ -14,7 +14,7 @@ SettlesOnce circuit = (state : State) (inputs v w : List ℕ) → Settled circui
 abbrev pub AreAlike : List ℕ → List ℕ → List ℕ → Type 0
 AreAlike places inputs others = (place : ℕ) → Contains places place → value_at inputs place ≡ value_at others place
 
--- The value of a signal depends only on the inputs at these places: it is the same in all settled rows of one state
--- whose inputs agree there.
+-- The value of a signal depends only on the inputs at these places: it is the same in all settled rows of one state with inputs that agree
+-- there.
 abbrev pub DependsOn : FlatCircuit → ℕ → List ℕ → Type 0
 DependsOn circuit s places = (state : State) (inputs others v w : List ℕ) → Settled circuit state inputs v → Settled circuit state others w → AreAlike places inputs others → value_at v s ≡ value_at w s

@@ -43,7 +43,7 @@ pub record IsLine (Named : ℕ → Shape → Type 0) (nodes : List Node) : Type 
   pub some : 0 < length nodes
   pub typed : (k : ℕ) → k < length nodes → HasShape Named (shapes_of nodes) k (shape_at (shapes_of nodes) k) (op_at nodes k)
 
--- signal s is one of these, and has the shape `to`
+-- signal s is among these shapes, and has the shape `to`
 abbrev pub HasType : List Shape → ℕ → Shape → Type 0
 HasType signals s to = (s < length signals) × (shape_at signals s ≡ to)
 
@@ -78,11 +78,11 @@ op_value signals shapes before (Two op i j) = value2 op (shape_at shapes i) (val
 op_value signals shapes before (Fix op i n m) = value_const op (shape_at shapes i) (value_at before i) n m
 op_value signals shapes before (Mux c i j) = value_mux (value_at before c) (shape_at shapes i) (value_at before i) (shape_at shapes j) (value_at before j)
 
--- the values with that of one more node
+-- the values of the nodes so far, and the value of one more node
 abbrev pub with_node : List ℕ → List Shape → List ℕ → Node → List ℕ
 with_node signals shapes before node = before ++ op_value signals shapes before node.op ∷ []
 
--- The values of the nodes, in order, each given those before it. `shapes` are the shapes of the whole line.
+-- The values of the nodes, in order, each from the values before it. `shapes` are the shapes of the whole line.
 abbrev pub node_values : List ℕ → List Shape → List Node → List ℕ
 node_values signals shapes nodes = fold (with_node signals shapes) [] nodes
 
@@ -90,6 +90,6 @@ node_values signals shapes nodes = fold (with_node signals shapes) [] nodes
 abbrev pub line_value : List ℕ → List Node → ℕ
 line_value signals nodes = value_at (node_values signals (shapes_of nodes) nodes) (length nodes - 1)
 
--- what a sink of this shape gets from a line: the result, extended by its own kind ("Connects")
+-- the value of a line for a sink of this shape: the result, extended by its own kind ("Connects")
 abbrev pub connected_value : List ℕ → Shape → List Node → ℕ
 connected_value signals sink nodes = extended (line_shape nodes) sink.width (line_value signals nodes)

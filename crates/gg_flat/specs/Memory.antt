@@ -17,7 +17,7 @@ use Rattle.gg_flat.specs.Line.{value_at}
 
 -- ---- addresses
 
--- the first width, from w on, with an address for each of `depth` words; after `more` widths the next
+-- the first of `more` widths, starting at w, with an address for each of `depth` words; the next width if none has
 abbrev pub first_width : ℕ → ℕ → ℕ → ℕ
 first_width zero w depth = w
 first_width (suc more) w depth = if nat_le depth (2 ^ w) then w else first_width more (suc w) depth
@@ -37,7 +37,7 @@ pub record Bank : Type 0 where
 abbrev pub read_word : List ℕ → ℕ → ℕ → ℕ
 read_word words addr en = if en == 1 then value_at words addr else 0
 
--- what a reader finds among these words, if the signals have the values `signals`
+-- the word that a reader reads among these words, if the signals have the values `signals`
 abbrev pub found_word : List ℕ → List ℕ → Reader → ℕ
 found_word signals words reader = read_word words (value_at signals reader.addr) (value_at signals reader.en)
 
@@ -45,12 +45,12 @@ found_word signals words reader = read_word words (value_at signals reader.addr)
 abbrev pub hits : List Bool → List ℕ → Writer → ℕ → Bool
 hits edges signals writer a = ticks edges writer.clock && (value_at signals writer.en == 1) && (value_at signals writer.mask == 1) && (value_at signals writer.addr == a)
 
--- The word at address a after the writes: that of the last writer that writes it, otherwise what it was before.
+-- The word at address a after the writes: from the last writer that writes it, otherwise what it was before.
 abbrev pub next_word : List Bool → List ℕ → List Writer → ℕ → ℕ → ℕ
 next_word edges signals [] a own = own
 next_word edges signals (writer ∷ writers) a own = next_word edges signals writers a (if hits edges signals writer a then value_at signals writer.word else own)
 
--- the words from address a on after the writes
+-- the words after the writes, starting at address a
 abbrev pub next_words_from : List Bool → List ℕ → List Writer → ℕ → List ℕ → List ℕ
 next_words_from edges signals writers a [] = []
 next_words_from edges signals writers a (own ∷ words) = next_word edges signals writers a own ∷ next_words_from edges signals writers (suc a) words
@@ -59,7 +59,7 @@ next_words_from edges signals writers a (own ∷ words) = next_word edges signal
 abbrev pub next_words : List Bool → List ℕ → List Writer → List ℕ → List ℕ
 next_words edges signals writers words = next_words_from edges signals writers 0 words
 
--- the words from which a late reader reads: those before or those after the writes
+-- the words that a late reader reads: before or after the writes
 abbrev pub words_read : UnderWrite → List ℕ → List ℕ → List ℕ
 words_read Old before after = before
 words_read Undefined before after = before
@@ -80,7 +80,7 @@ abbrev pub next_reads : List Bool → List ℕ → Latency → List Reader → L
 next_reads edges signals Zero readers before after own = []
 next_reads edges signals (One under) readers before after own = late_reads edges signals (words_read under before after) readers own
 
--- what a memory holds after a tick with these edges, in which the signals have the values `signals`
+-- what a memory holds after a tick with these edges, if the signals have the values `signals`
 abbrev pub next_bank : List Bool → List ℕ → Memory → Bank → Bank
 next_bank edges signals memory bank =
     record {

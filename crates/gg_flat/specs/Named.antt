@@ -9,23 +9,23 @@ use Rattle.gg_flat.specs.Reads.{Names, RegisterNames}
 
 -- ---- each signal that something names has the property P
 
--- a line
+-- each signal that a line names has the property P
 abbrev pub NamesOnly : (ℕ → Type 0) → List Node → Type 0
 NamesOnly P line = (s : ℕ) → Names line s → P s
 
--- a register
+-- each signal that a register names has the property P
 abbrev pub RegisterNamesOnly : (ℕ → Type 0) → Register → Type 0
 RegisterNamesOnly P register = (s : ℕ) → RegisterNames register s → P s
 
--- a reader of a memory
+-- each signal that a reader of a memory names has the property P
 abbrev pub ReaderNamesOnly : (ℕ → Type 0) → Reader → Type 0
 ReaderNamesOnly P reader = P reader.addr × P reader.en × P reader.word
 
--- a writer of a memory
+-- each signal that a writer of a memory names has the property P
 abbrev pub WriterNamesOnly : (ℕ → Type 0) → Writer → Type 0
 WriterNamesOnly P writer = P writer.addr × P writer.en × P writer.word × P writer.mask
 
--- a memory, with all its ports
+-- each signal that the ports of a memory name has the property P
 pub record MemoryNamesOnly (P : ℕ → Type 0) (memory : Memory) : Type 0 where
   pub readers : All (λ reader. ReaderNamesOnly P reader) memory.readers
   pub writers : All (λ writer. WriterNamesOnly P writer) memory.writers

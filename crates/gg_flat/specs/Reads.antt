@@ -13,8 +13,8 @@ use Rattle.gg_flat.specs.Circuit.{FlatCircuit, driver_at}
 abbrev pub Names : List Node → ℕ → Type 0
 Names nodes s = Contains (map (λ node. node.op) nodes) (Ref s)
 
--- A driver names a signal: a line those that it refers to, a read of latency 0 its address and its enable. The drivers
--- of an in-signal, a register's signal and a read register name none.
+-- A driver names a signal. A line names each signal that it refers to, and a read of latency 0 its address and its enable. The drivers of
+-- an in-signal, a register's signal and a read register name none.
 abbrev pub NamesSignal : Driver → ℕ → Type 0
 NamesSignal (Input place) s = ⊥
 NamesSignal (Held register) s = ⊥
@@ -47,7 +47,7 @@ ReadsInTurn circuit first [] = ⊥
 ReadsInTurn circuit first (a ∷ []) = Reads circuit a first
 ReadsInTurn circuit first (a ∷ b ∷ rest) = Reads circuit a b × ReadsInTurn circuit first (b ∷ rest)
 
--- A combinational loop: distinct signals, each of which reads the next, the last the first.
+-- A combinational loop: distinct signals. Each reads the next, and the last reads the first.
 abbrev pub IsLoop : FlatCircuit → List ℕ → Type 0
 IsLoop circuit [] = ⊥
 IsLoop circuit (first ∷ rest) = AllPairs (λ a b. a ≢ b) (first ∷ rest) × ReadsInTurn circuit first (first ∷ rest)

@@ -1,6 +1,6 @@
 -- A run of a flat circuit, and the column of a signal.
--- Source: FIRRTL Specification, "Registers" (a state at a time); ICCAD 2019 for target cycles as rows. A cycle is a
--- base tick, in which some of the circuit's clocks have an edge.
+-- Source: FIRRTL Specification, "Registers" (a state at a time); ICCAD 2019 for target cycles as rows. A cycle is a base tick, where some
+-- of the circuit's clocks have an edge.
 use Rattle.std.specs.Prelude.{◌≡◌, ℕ, zero, suc, ◌<◌, List, [], length, map, slice_index_or, All}
 use Rattle.gg_flat.specs.Clock.{Ratio, edges_at}
 use Rattle.gg_flat.specs.Line.{value_at}
@@ -33,15 +33,15 @@ pub record Start : Type 0 where
   pub state : State
   pub ratios : List Ratio
 
--- the start of a whole run whose clocks have these ratios: cycle 0, with zeros
+-- the start of a whole run with these ratios for its clocks: cycle 0, with zeros
 abbrev pub clocked_start : FlatCircuit → List Ratio → Start
 clocked_start circuit ratios = record { cycle = 0; state = opening circuit; ratios = ratios }
 
--- the same without ratios: each clock has an edge in each tick
+-- the start of a whole run without ratios: each clock has an edge in each tick
 abbrev pub opening_start : FlatCircuit → Start
 opening_start circuit = clocked_start circuit []
 
--- the state after t cycles from the start, in which the signals have the values `rows`
+-- the state after t cycles from the start, if the signals have the values `rows`
 abbrev pub state_at : FlatCircuit → Start → List (List ℕ) → ℕ → State
 state_at circuit start rows zero = start.state
 state_at circuit start rows (suc t) = next_state (edges_at start.ratios (later start.cycle t)) circuit (state_at circuit start rows t) (row_at rows t)

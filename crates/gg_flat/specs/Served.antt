@@ -1,6 +1,6 @@
 -- A memory that serves one port after another: what it holds after the first of its accesses.
--- Source: FIRRTL Specification, "Memories". Late readers of old words come before the writers, and those of new words
--- after them: this is what "Memories" says of a read under a write.
+-- Source: FIRRTL Specification, "Memories". Late readers of old words come before the writers, and late readers of new words after them, as
+-- "Memories" defines a read under a write.
 use Rattle.std.specs.Prelude.{ℕ, suc, List, [], ◌∷◌, ◌++◌, slice_set, Bool, ◌==◌, ◌&&◌, if◌then◌else◌}
 use Rattle.gg_flat.specs.declared.memory.UnderWrite.TheVariants.{Old, New, Undefined}
 use Rattle.gg_flat.specs.declared.memory.Latency.{Latency}
@@ -16,12 +16,12 @@ pub data Access : Type 0 where
   ByReader : ℕ → Reader → Access
   ByWriter : ℕ → Writer → Access
 
--- the accesses by readers, from place r on
+-- the accesses by readers; the first reader is at place r
 abbrev pub by_readers : ℕ → List Reader → List Access
 by_readers r [] = []
 by_readers r (reader ∷ readers) = ByReader r reader ∷ by_readers (suc r) readers
 
--- the accesses by writers, from place w on
+-- the accesses by writers; the first writer is at place w
 abbrev pub by_writers : ℕ → List Writer → List Access
 by_writers w [] = []
 by_writers w (writer ∷ writers) = ByWriter w writer ∷ by_writers (suc w) writers

@@ -26,7 +26,7 @@ abbrev pub connected_or : List ℕ → Shape → Option (List Node) → ℕ → 
 connected_or signals sink None own = own
 connected_or signals sink (Some line) own = connected_value signals sink line
 
--- the init of a reset whose condition is 1, otherwise the other value
+-- the init of the reset if its condition is 1, otherwise the other value
 abbrev pub reset_or : List ℕ → Shape → Option Reset → ℕ → ℕ
 reset_or signals sink None other = other
 reset_or signals sink (Some reset) other = if line_value signals reset.condition == 1 then connected_value signals sink reset.init else other
@@ -46,7 +46,7 @@ next_registers edges signals [] own = []
 next_registers edges signals (register ∷ registers) [] = []
 next_registers edges signals (register ∷ registers) (own ∷ others) = next_register edges signals register own ∷ next_registers edges signals registers others
 
--- the state after a tick with these edges, in which the signals have these values
+-- the state after a tick with these edges, if the signals have these values
 abbrev pub next_state : List Bool → FlatCircuit → State → List ℕ → State
 next_state edges circuit state signals =
     record {

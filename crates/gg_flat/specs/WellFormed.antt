@@ -19,8 +19,8 @@ use Rattle.gg_flat.specs.Memory.{address_width}
 abbrev pub IsDataOf : FlatCircuit → ℕ → ℕ → ℕ → Type 0
 IsDataOf circuit m r s = (r < length (readers_at circuit m)) × ((reader_at (readers_at circuit m) r).word ≡ s)
 
--- The driver of signal s is allowed. That of an in-signal names the signal's place in the list of in-signals, that of a
--- register's signal a register of its type, that of a reader's data this reader. A line may be connected to the signal.
+-- The driver of signal s is allowed. For an in-signal it names the signal's place in the list of in-signals, for a register's signal a
+-- register of its type, for a reader's data this reader. A line may be connected to the signal.
 abbrev pub MayDrive : FlatCircuit → ℕ → Driver → Type 0
 MayDrive circuit s (Input place) = (place < length circuit.ins) × (value_at circuit.ins place ≡ s)
 MayDrive circuit s (Held register) = (register < length circuit.registers) × (shape_at (register_shapes circuit) register ≡ shape_at (signal_shapes circuit) s)
@@ -67,7 +67,7 @@ reader_driver (One under) m r reader = ReadRegister m r
 abbrev pub AreDriven : (ℕ → Driver) → ℕ → Latency → List Reader → Type 0
 AreDriven driver m latency readers = (r : ℕ) → r < length readers → driver (reader_at readers r).word ≡ reader_driver latency m r (reader_at readers r)
 
--- a clock is one of `count`, or that of every tick
+-- a clock is one of `count`, or none, the clock of every tick
 abbrev pub IsClock : ℕ → Option ℕ → Type 0
 IsClock count clock = MatchOption clock ⊤ (λ number. number < count)
 
@@ -76,10 +76,9 @@ pub record IsClockedMemory (count : ℕ) (memory : Memory) : Type 0 where
   pub readers : All (λ reader. IsClock count reader.clock) memory.readers
   pub writers : All (λ writer. IsClock count writer.clock) memory.writers
 
--- A flat circuit is well formed. Each signal has a path, and no two have the same. The in-signals are just the signals
--- without a driver of their own, each listed once. The data of readers are just the signals that memories drive, each
--- of exactly one reader. Every name is one of the circuit's. Types agree. The clock of a register or of a memory's port is
--- one of the circuit's, or that of every tick.
+-- A flat circuit is well formed. Each signal has a path, and no two have the same. The in-signals are just the signals without a driver of
+-- their own, each listed once. The data of readers are just the signals that memories drive, each of exactly one reader. Every name is one
+-- of the circuit's. Types agree. The clock of a register or of a memory's port is one of the circuit's, or the clock of every tick.
 pub record IsWellFormed (circuit : FlatCircuit) : Type 0 where
   pub named : length circuit.paths ≡ length circuit.signals
   pub distinct : AllPairs (λ a b. a ≢ b) circuit.paths

@@ -137,7 +137,7 @@ fn parts_value(op: Op2, to: Ty, a: &Part, b: &Part, nodes: &[Node], signals: &[u
     apply2_to(op, to, first, x, second, y).0
 }
 
-// The value of an operation with parameters on that of an operation on two values.
+// The value of an operation with parameters on the result of an operation on two values.
 fn cut_value(
     op: OpN,
     to: Ty,

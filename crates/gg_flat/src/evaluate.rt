@@ -105,7 +105,7 @@ impl Line {
         }
     }
 
-    /// What a sink of a type gets from the line: its value, extended to the sink's width by the line's own kind.
+    /// The value of the line for a sink of this type: extended to the sink's width by the line's own kind.
     #[inline(never)]
     pub fn connected(&self, sink: Ty, signals: &[u128], scratch: &mut [u128]) -> u128
         requires source { IsSource (HasValue signals.now) (shape sink) self.now }
@@ -119,7 +119,7 @@ impl Line {
         }
     }
 
-    // The same, node by node.
+    // `connected` for a line of any form, node by node.
     #[inline(never)]
     fn connected_long(&self, sink: Ty, signals: &[u128], scratch: &mut [u128]) -> u128
         requires source { IsSource (HasValue signals.now) (shape sink) self.now }

@@ -1,4 +1,4 @@
-//! Forms: what a line does where that is one operation, or two, on natural numbers that references and literals give.
+//! Forms: lines that are one or two operations on natural numbers, the values of references and literals.
 ghost use Rattle.std.specs.Prelude.{◌≡◌, ◌≤◌};
 ghost use Rattle.gg_bits.specs.Shape.{shape, uint};
 
@@ -38,7 +38,8 @@ pub(crate) enum Part {
 pub(crate) enum Nested {
     // An operation on two values, with its result's type.
     Parts(Op2, Ty, Part, Part),
-    // An operation with two parameters, with its result's type, on that of an operation on two values, with its type.
+    // An operation with two parameters, with its result's type, on the result of an operation on two values, with its
+    // type.
     Cut(OpN, Ty, u32, u32, Op2, Ty, Operand, Operand),
 }
 

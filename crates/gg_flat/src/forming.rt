@@ -98,7 +98,7 @@ fn form2(nodes: &[Node], op: Op2, to: Ty, i: u32, j: u32) -> Form
     }
 }
 
-// The same, where an operand may be bits of another.
+// The form of nodes that end with an operation on two values, where an operand may be bits of another.
 fn parts_form(nodes: &[Node], op: Op2, to: Ty, i: u32, j: u32) -> Form
     requires op { last_op nodes.now ≡ Two op i j }
     requires natural { IsNatural nodes.now }
@@ -124,7 +124,8 @@ fn form_const(nodes: &[Node], op: OpN, to: Ty, i: u32, n: u32, m: u32) -> Form
     }
 }
 
-// The same, where the operand may be an operation on two values.
+// The form of nodes that end with an operation on one value with parameters, where the operand may be an operation on
+// two values.
 fn cut_form(nodes: &[Node], op: OpN, to: Ty, i: u32, n: u32, m: u32) -> Form
     requires op { last_op nodes.now ≡ Fix op i n m }
     requires natural { IsNatural nodes.now }
@@ -162,7 +163,7 @@ fn form_mux(nodes: &[Node], c: u32, i: u32, j: u32) -> Form
     }
 }
 
-// The form of nodes whose result is of this type, of kind `UInt`.
+// The form of nodes with a result of this type, which is of kind `UInt`.
 fn form_to(nodes: &[Node], to: Ty) -> Form
     requires some { 0 < length nodes.now }
     requires natural { IsNatural nodes.now }

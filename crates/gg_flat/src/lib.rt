@@ -1,16 +1,18 @@
 //! Flat circuits: their definition, and what they do.
 //!
 //! A flat circuit has signals, each with a path, a type and one driver. It has registers, memories, the signals that it
-//! gets from outside (in-signals) and those that it gives to the outside (out-signals). The definitions of `specs/` say
-//! when it is well formed, which signals read which, which values of all signals are settled in a cycle, the state
-//! after a cycle, and what a run is. They use no order of evaluation. gg_refsim checks whether a circuit is well
-//! formed, gg_order works out cycles and runs and has their laws, and gg_flat_tree has the trees of instances.
+//! gets from outside (in-signals) and the signals that it gives to the outside (out-signals). The definitions of
+//! `specs/` say when it is well formed, which signals read which, which values of all signals are settled in a cycle,
+//! the state after a cycle, and what a run is. They use no order of evaluation. gg_refsim checks whether a circuit is
+//! well formed, gg_order works out cycles and runs and has their laws, and gg_flat_tree has the trees of instances.
 //!
-//! A `Piece` is a flat circuit, built signal by signal; `Piece::copy` gives an equal one. `Line::value` gives what a line
-//! comes to without allocating, in scratch space (gg_order's `scratch_of`). `in_ports` and `out_ports` give its ports.
+//! A `Piece` is a flat circuit, built signal by signal; `Piece::copy` returns an equal one. `Line::value` returns the
+//! value of a line without allocating, in scratch space (gg_order's `scratch_of`). `in_ports` and `out_ports` return
+//! its ports.
 //!
-//! What gives other numbers is a `Renames`, such as `Lists`. `renamed_driver`, `renamed_register` and `renamed_memory` give the same under
-//! these numbers (`specs/Renaming`).
+//! A `Renames`, such as `Lists`, maps signals, registers and memories to other numbers. `renamed_driver`,
+//! `renamed_register` and `renamed_memory` return a driver, a register and a memory under these numbers
+//! (`specs/Renaming`).
 #![tactic(auto)]
 
 mod by_form;

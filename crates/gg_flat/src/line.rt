@@ -8,10 +8,10 @@ use gg_bits::{Op1, Op2, OpN, Ty, Val};
 use std::alloc::{AllocError, Global};
 use std::marker::Model;
 
-/// What a node of a line does. The numbers of operands are those of earlier nodes of the same line.
+/// What a node of a line does. Its operands are earlier nodes of the same line, by their numbers.
 ///
-/// These are the expressions of the FIRRTL Specification ("Expressions"): a reference, a literal, a primitive
-/// operation or a multiplexer.
+/// These are the expressions of the FIRRTL Specification ("Expressions"): a reference, a literal, a primitive operation
+/// or a multiplexer.
 #[derive(Clone, Copy, PartialEq, Eq)]
 pub enum Op {
     /// The value of a signal, named by its number.
@@ -42,7 +42,7 @@ pub struct Node {
 /// A contract sees it as the list of its nodes.
 pub struct Line {
     nodes: Vec<Node>,
-    // What the nodes come to, for a quick evaluation.
+    // The form of the nodes, for a quick evaluation.
     form: Form,
 }
 
@@ -115,7 +115,7 @@ impl Line {
         self.nodes.as_slice()
     }
 
-    // What the nodes come to.
+    // The form of the nodes.
     pub(crate) fn form(&self) -> &Form
         ensures { IsForm self.now result.now }
     {

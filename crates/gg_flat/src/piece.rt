@@ -354,7 +354,7 @@ impl Piece {
         Ok(())
     }
 
-    /// Gives the piece this many clocks.
+    /// Sets the number of the piece's clocks.
     pub fn set_clocks(&mut self, count: u32)
         ensures { self.new ≡ record self.old { clocks = count } }
     {

@@ -1,4 +1,4 @@
-//! `Ports`: names with their types, in port order; those that a piece gets from outside and gives to the outside, or any others.
+//! `Ports`: names with their types, in port order, such as the inputs and the outputs of a piece.
 ghost use Rattle.std.specs.Prelude.{◌≡◌, ◌<◌, Some, IfOk, All, length};
 ghost use Rattle.gg_flat.specs.Ports.{port_at, ports_at, in_ports};
 ghost use Rattle.gg_flat.specs.inside.Ports.{out_ports};

@@ -1,12 +1,12 @@
-//! `Renames`: what gives other numbers.
+//! `Renames`: other numbers for signals, registers and memories.
 ghost use Rattle.std.specs.Prelude.{◌≡◌};
 ghost use Rattle.gg_flat.specs.Line.{value_at};
 
-/// What gives other numbers to signals, registers and memories, and other clocks.
+/// Other numbers for signals, registers and memories, and other clocks.
 pub trait Renames {
     ghost use Rattle.gg_flat.specs.Renaming.{Renaming};
 
-    /// The numbers that it gives.
+    /// The other numbers, as functions.
     ghost numbers: { Self → Renaming };
 
     /// The number of a signal.
@@ -26,7 +26,8 @@ pub trait Renames {
         ensures { result ≡ (numbers self.now).clocks clock };
 }
 
-/// Numbers by lists: each number is that at its place, 0 past the end. All that has a clock follows one and the same.
+/// Numbers by lists: the new number is the entry at the old one, 0 past the end. Everything with a clock follows one
+/// and the same.
 #[derive(Clone, Copy)]
 pub struct Lists<'a> {
     /// The numbers of signals.
@@ -35,7 +36,7 @@ pub struct Lists<'a> {
     pub registers: &'a [u32],
     /// The numbers of memories.
     pub memories: &'a [u32],
-    /// The clock that all follows; none: every tick.
+    /// The clock that everything follows; none: every tick.
     pub clock: Option<u32>,
 }
 

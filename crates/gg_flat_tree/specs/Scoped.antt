@@ -1,6 +1,6 @@
--- Scoping: which signals the driver of a signal, a register and a memory can name, and how signals are named in the
--- tree. Source: FIRRTL Specification, "Namespaces" (the names of one module are distinct, and it sees those of its
--- declarations and of its instances' ports), "Instances", "Memories" (the fields of a port), "Connects".
+-- Scoping: which signals the driver of a signal, a register and a memory can name, and how signals are named in the tree. Source: FIRRTL
+-- Specification, "Namespaces" (the names of one module are distinct, and it sees the names of its declarations and of its instances'
+-- ports), "Instances", "Memories" (the fields of a port), "Connects".
 use Rattle.std.specs.Prelude.{◌≡◌, ◌≢◌, ◌⊎◌, ℕ, ◌<◌, List, [], ◌∷◌, ◌++◌, true, not, Some, length, map, flat_map, filter, slice_get, slice_index_or, Contains, AllPairs}
 use Rattle.gg_flat_tree.specs.declared.tree.InstancePort.{InstancePort}
 use Rattle.gg_flat.specs.declared.memory.Reader.{Reader}
@@ -58,13 +58,13 @@ pub record IsInputOf (tree : InstanceTree) (i s : ℕ) : Type 0 where
   pub is : port.signal ≡ s
   pub input : port.is_input ≡ true
 
--- Signal s is an input of an instance whose parent is at place k.
+-- Signal s is an input of an instance with its parent at place k.
 pub record IsChildsInput (tree : InstanceTree) (k s : ℕ) : Type 0 where
   pub child : ℕ
   pub parent : (instance_at tree child).parent ≡ Some k
   pub input : IsInputOf tree child s
 
--- Signal s is a port of an instance whose parent is at place k.
+-- Signal s is a port of an instance with its parent at place k.
 pub record IsChildsPort (tree : InstanceTree) (k s : ℕ) : Type 0 where
   pub child : ℕ
   pub parent : (instance_at tree child).parent ≡ Some k
@@ -80,7 +80,7 @@ pub record IsOwnSink (tree : InstanceTree) (k s : ℕ) : Type 0 where
 abbrev pub IsWritten : InstanceTree → ℕ → ℕ → Type 0
 IsWritten tree k s = IsOwnSink tree k s ⊎ IsChildsInput tree k s
 
--- Signal s can be named in the instance at place k: it is its own, or a port of an instance whose parent it is.
+-- Signal s can be named in the instance at place k: it is its own, or a port of an instance with this parent.
 abbrev pub IsVisible : InstanceTree → ℕ → ℕ → Type 0
 IsVisible tree k s = IsInnermost tree k s ⊎ IsChildsPort tree k s
 
@@ -115,11 +115,10 @@ pub record IsStop (circuit : FlatCircuit) (tree : InstanceTree) (j : ℕ) : Type
   pub no_port : (k : ℕ) → ¬ IsPort tree k (stop_at tree j).signal
   pub no_field : (i : ℕ) → i < length tree.memories → ¬ IsFieldOf circuit tree i (stop_at tree j).signal
 
--- A circuit keeps to the scopes of its tree. The circuit's in-signals are the top's inputs, in port order. Its
--- out-signals are the top's outputs, in port order, and then the stops, which are distinct. An instance's ports are its
--- own signals, and are distinct; so are a memory's fields. The path of an own signal is just below the instance's,
--- unless it is such a field. No memory has an instance's path. The signals that a driver names, and those that the
--- register of a signal names, are visible where the driver is written.
+-- A circuit keeps to the scopes of its tree. The circuit's in-signals are the top's inputs, in port order. Its out-signals are the top's
+-- outputs, in port order, and then the stops, which are distinct. An instance's ports are its own signals, and are distinct; so are a
+-- memory's fields. The path of an own signal is just below the instance's, unless it is such a field. No memory has an instance's path. The
+-- signals that a driver names are visible where the driver is written, and so are the signals that the register of a signal names.
 pub record IsScoped (circuit : FlatCircuit) (tree : InstanceTree) : Type 0 where
   pub ins : input_signals (instance_at tree 0).ports ≡ circuit.ins
   pub outs : output_signals (instance_at tree 0).ports ++ stop_signals tree ≡ circuit.outs

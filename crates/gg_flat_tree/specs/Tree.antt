@@ -64,7 +64,7 @@ parent_place (Some parent) = parent
 abbrev pub Holds : Instance → ℕ → Type 0
 Holds instance s = (instance.first ≤ s) × (s < instance.end)
 
--- the innermost instance that holds signal s is at place k: no instance whose parent it is holds the signal
+-- the innermost instance that holds signal s is at place k: no instance with this parent holds the signal
 pub record IsInnermost (tree : InstanceTree) (k s : ℕ) : Type 0 where
   pub known : k < length tree.instances
   pub holds : Holds (instance_at tree k) s
@@ -118,7 +118,7 @@ pub record IsTree (circuit : FlatCircuit) (tree : InstanceTree) : Type 0 where
   pub below : (k : ℕ) → 0 < k → k < length tree.instances → IsBelow tree k
   pub named : length tree.paths ≡ length tree.instances
   pub distinct : AllPairs (λ a b. a ≢ b) tree.paths
-  -- the signals of one end where those of the other begin, or before
+  -- the signals of one end before the signals of the other begin
   pub apart : (i j above : ℕ) → i < j → j < length tree.instances → (instance_at tree i).parent ≡ Some above → (instance_at tree j).parent ≡ Some above → ((instance_at tree i).end ≤ (instance_at tree j).first) ⊎ ((instance_at tree j).end ≤ (instance_at tree i).first)
   pub each : (k : ℕ) → k < length tree.instances → IsInstance circuit (instance_at tree k)
   pub signals : (k s : ℕ) → IsInnermost tree k s → IsWithin (path_at tree.paths k) (path_at circuit.paths s)
@@ -127,5 +127,5 @@ pub record IsTree (circuit : FlatCircuit) (tree : InstanceTree) : Type 0 where
   pub memory_distinct : AllPairs (λ a b. a ≢ b) tree.memory_paths
   pub held : (k : ℕ) → k < length tree.memories → IsHeld circuit tree k
   pub once : AllPairs (λ a b. a.memory ≢ b.memory) tree.memories
-  -- the memories of an instance are before those of later instances
+  -- an instance's memories are before the memories of later instances
   pub ordered : AllPairs (λ a b. a.instance ≤ b.instance) tree.memories

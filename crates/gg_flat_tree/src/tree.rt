@@ -33,8 +33,8 @@ pub struct Instance {
     pub ports: Items<InstancePort>,
     /// Its own memories, in the order of the file.
     pub memories: Ids,
-    /// For each of its Clock inputs, in port order, the Clock input of its parent that it follows. For each of the top
-    /// it is that one itself.
+    /// For each of its Clock inputs, in port order, the Clock input of its parent that it follows. A Clock input of the
+    /// top follows itself.
     pub clocks: ClockNumbers,
 }
 
@@ -109,10 +109,10 @@ impl Clone for MemoryInstance {
     }
 }
 
-/// A stop in the tree: where the circuit asks for the end of a run (FIRRTL Specification, "Stop").
+/// A stop in the tree, which requests the end of a run (FIRRTL Specification, "Stop").
 #[derive(Clone, Copy, PartialEq, Eq)]
 pub struct StopInstance {
-    /// The instance whose module has it.
+    /// The instance of the module that declares it.
     pub instance: u32,
     /// Its signal: its condition, one unsigned bit.
     pub signal: u32,
@@ -351,11 +351,7 @@ impl Tree {
         Ok(())
     }
 
-    /// Adds what the next register of the flat circuit follows.
-    ///
-    /// # Errors
-    ///
-    /// Returns `AllocError` if an allocation fails. The tree then stays as it was.
+    /// Adds the Clock input that the next register of the flat circuit follows.
     pub fn add_register_clock(&mut self, clock: Option<u32>) -> Result<(), AllocError>
         ensures ok { OnOk result (self.new ≡ record self.old { register_clocks = self.old.register_clocks ++ clock ∷ [] }) }
         ensures err { OnErr result (self.new ≡ self.old) }

@@ -38,7 +38,7 @@ pub fn clocks_at(
     Ok(found)
 }
 
-// What the Clock inputs of an instance lead to, given what those of the instances before it lead to.
+// The clocks of the circuit that the Clock inputs of an instance follow, from the clocks of the instances before it.
 fn clocks_of(
     alloc: Global,
     before: &[ClockNumbers],

@@ -1,6 +1,6 @@
--- Which circuits are accepted: those that have no static fault, are within the limits and have no combinational loop.
--- Source: FIRRTL Specification, for each fault as it is named in the crates that have it, and "Combinational Loops". The limits
--- are this program's own.
+-- Accepted circuits: they have no static fault, are within the limits and have no combinational loop.
+-- Source: FIRRTL Specification, for each fault as it is named in the crates that have it, and "Combinational Loops". The limits are this
+-- program's own.
 use Rattle.std.specs.Prelude.{◌≡◌, List, [], ℕ, Option, None}
 use Rattle.gg_ast.specs.Places.{place_of}
 use Rattle.gg_ast.specs.Tree.{CircuitTree, module_names}

@@ -1,4 +1,4 @@
--- What the front end's contracts speak of.
+-- The definitions that the front end's contracts name.
 pub mod Accepted
 pub mod Fault
 pub mod Meaning

@@ -16,8 +16,7 @@ pub record Means (bytes : List ℕ) (flat : FlatCircuit) : Type 0 where
   pub flattened : IsFlat text.circuit flat
   pub formed : IsWellFormed flat
 
--- The bytes mean the design's flat circuit, and its tree is that of the circuit that they spell. The order is left
--- open.
+-- The bytes mean the design's flat circuit, and its tree is the tree of the circuit that they spell. The order is left open.
 pub record MeansDesign (bytes : List ℕ) (design : Ordered) : Type 0 where
   pub means : Means bytes design.circuit
   pub grown : IsTreeOf means.text.circuit design.tree

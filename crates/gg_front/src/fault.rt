@@ -8,7 +8,7 @@ use std::fmt;
 /// Why the bytes of a circuit file give no design.
 #[derive(Debug, Drop)]
 pub enum FrontFault {
-    /// The fault of reading, if no circuit can be read. It is never `ReadFault::NoMemory`, for which there is
+    /// The fault of reading, if no circuit can be read. It is never `ReadFault::NoMemory`: that is
     /// `FrontFault::NoMemory`.
     Read(ReadFault),
     /// The first fault of the circuit: one of F1 to F16.

@@ -33,16 +33,16 @@ use gg_types::Typed;
 use gg_types_rules::typed;
 use std::alloc::{AllocError, Global};
 
-/// The design of a circuit file: a well-formed flat circuit that the bytes mean, with the tree of the circuit that
-/// they spell and an order of evaluation. Each register is held by exactly one signal. The circuit keeps to its tree, in
-/// which instances of one module are copies of each other.
+/// The design of a circuit file: a well-formed flat circuit that the bytes mean, with the tree of the circuit that they
+/// spell and an order of evaluation. Each register is held by exactly one signal. The circuit keeps to its tree, and
+/// instances of one module are copies of each other.
 ///
 /// # Errors
 ///
-/// Returns `Read` with the fault of reading if the bytes are not a text or a line is at fault. Returns `Fault` with
-/// the first fault if the bytes spell a circuit that isn't accepted: a fault of shape (F1 to F8), of types (F9 to
-/// F14), of the limits (F15), or a loop (F16). Any one of several rings of modules, or of several loops, may be
-/// reported. Returns `NoMemory` if an allocation fails.
+/// Returns `Read` with the fault of reading if the bytes are not a text or a line is at fault. Returns `Fault` with the
+/// first fault if the bytes spell a circuit that isn't accepted: a fault of shape (F1 to F8), of types (F9 to F14), of
+/// the limits (F15), or a loop (F16). Any one of several rings of modules, or of several loops, may be reported.
+/// Returns `NoMemory` if an allocation fails.
 pub fn front(alloc: Global, bytes: &[u8]) -> Result<Design, FrontFault>
     requires { length bytes.now < 2 ^ 32 }
     ensures ok { IfOk result (λ design. MeansDesign bytes.now design) }

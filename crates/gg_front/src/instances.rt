@@ -10,8 +10,8 @@ use gg_flat::Piece;
 use gg_flat_tree::Tree;
 use gg_types::Typed;
 
-/// Any two instances of one module have the same signals, drivers, registers and memories, but for their numbers and the
-/// front of their paths. The function computes nothing: its contract states this fact about the three.
+/// Any two instances of one module have the same signals, drivers, registers and memories, except for their numbers and
+/// the front of their paths. The function computes nothing: its contract states this fact about the three.
 pub fn copies(typed: &Typed, piece: &Piece, tree: &Tree)
     requires flat { IsFlat typed.now.circuit piece.now }
     requires tree { IsTreeOf typed.now.circuit tree.now }
@@ -21,7 +21,7 @@ pub fn copies(typed: &Typed, piece: &Piece, tree: &Tree)
 {
     let circuit = typed.names().circuit();
     circuit.names_are_words();
-    // for the invariant alone
+    // for the invariant only
     let _ = top_of(typed);
     let _ = typed.order();
     let _ = piece.signal_count();

@@ -16,8 +16,8 @@ ghost use Rattle.gg_front.specs.declared.fault.FrontFault.TheVariants.{NoMemory}
 
 use gg_read::{one_circuit, one_fault_line};
 
-/// The bytes of a circuit file mean at most one flat circuit and one tree of instances. So two designs that they mean
-/// differ in their order alone.
+/// The bytes of a circuit file mean at most one flat circuit and one tree of instances. Two designs that they mean
+/// therefore differ only in their order.
 pub fn one_meaning()
     ensures flat { (bytes : List ℕ) (one other : FlatCircuit) → Means bytes one → Means bytes other → one ≡ other }
     ensures tree { (bytes : List ℕ) (one other : Ordered) → MeansDesign bytes one → MeansDesign bytes other → one.tree ≡ other.tree }

@@ -16,8 +16,8 @@ pub fn paths_are_words()
     ensures { TextsHavePaths }
 {}
 
-/// No path of a signal in the flat circuit of a text begins with `pipe:`. Names have no colon, and the paths of stops have
-/// theirs behind `stop`. So names that begin so are free for what is added to a circuit.
+/// No path of a signal in the flat circuit of a text begins with `pipe:`. Names have no colon, and the paths of stops
+/// have theirs after `stop`. Names with this beginning are therefore free for what is added to a circuit.
 pub fn no_pipe_names()
     ensures { NoPathBegins (codes "pipe:") }
 {}

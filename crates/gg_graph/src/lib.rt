@@ -6,8 +6,8 @@
 //! - `walk` returns an order exactly if the graph has no ring, and otherwise one of its rings, or `NoMemory`;
 //! - a graph that has an order has no ring (`no_ring`).
 //!
-//! A walk asks for each target of a node at most twice, so its time is linear in nodes and targets. It keeps its path in a
-//! list, so a long chain of nodes needs no stack.
+//! A walk looks up each target of a node at most twice, so its time is linear in nodes and targets. It keeps its path
+//! in a list, so a long chain of nodes needs no stack.
 #![tactic(auto)]
 
 mod descent;

@@ -8,7 +8,7 @@ ghost use Rattle.gg_graph.specs.Graph.{IsRing};
 pub struct Target {
     /// The target.
     pub node: u32,
-    /// The place after it, from which to look for the next target.
+    /// The place after it, where the search for the next target begins.
     pub next: usize,
 }
 

@@ -7,7 +7,7 @@ use crate::nodes::Graph;
 use crate::scan::Candidate;
 use std::alloc::{AllocError, Global};
 
-// How far the walk is with a node: it hasn't come to it, the node is on its path, or it is in the order.
+// How far the walk is with a node: not met, on its path, or in the order.
 #[derive(Clone, Copy)]
 pub(crate) enum Stage {
     New,
@@ -15,8 +15,8 @@ pub(crate) enum Stage {
     Done,
 }
 
-// The state of a walk. For each node its stage, and the place below which all its targets are done. The nodes of the
-// path above the one that the walk is at. The order so far.
+// The state of a walk: for each node its stage, and a place with all targets at lower places done; the path above the
+// current node; the order so far.
 #[derive(Drop)]
 pub(crate) struct Progress {
     pub(crate) stages: Vec<Stage>,
@@ -25,7 +25,7 @@ pub(crate) struct Progress {
     pub(crate) order: Vec<u32>,
 }
 
-// A walk that has come to no node.
+// A walk that has met no node yet.
 pub(crate) fn new_progress<G: Graph>(alloc: Global, graph: &G) -> Result<Progress, AllocError>
     ensures walks { IfOk result (IsUnderWay (G.edge graph.now) (G.edge_below graph.now) (G.nodes graph.now) []) }
     ensures path { IfOk result (λ walk. walk.path.items ≡ []) }
@@ -39,7 +39,7 @@ pub(crate) fn new_progress<G: Graph>(alloc: Global, graph: &G) -> Result<Progres
     })
 }
 
-// The stages of nodes, none of which was met.
+// The stages of this many nodes, not met yet.
 fn all_new(alloc: Global, count: usize) -> Result<Vec<Stage>, AllocError>
     ensures { IfOk result (λ stages. stages.items ≡ replicate count New) }
 {
@@ -82,7 +82,7 @@ pub(crate) fn leave(walk: &mut Progress, node: u32) -> Result<Option<u32>, Alloc
     Ok(walk.path.pop())
 }
 
-// The end of a path, with the node that it leads to, from one of its nodes on.
+// The part of a path and the next node that begins at the node `first`.
 pub(crate) fn ring_of(path: &mut Vec<u32>, node: u32, first: u32) -> Result<Vec<u32>, AllocError>
     requires { Contains (path.old.items ++ node ∷ []) first }
     ensures { IfOk result (λ ring. IsEndFrom (path.old.items ++ node ∷ []) first ring.items) }

@@ -55,15 +55,14 @@ StandsFront before now text = (part : List ℕ) × IsFront part text × (now ≡
 abbrev pub Reports : (err : Puts) (line : List ℕ) → Type 0
 Reports err line = (err.after ≡ append_known err.before line) ⊎ (err.troubled × StandsFront err.before err.after line)
 
--- A call with this status reported this: the status is that of the report, and the report's line is reported on the
--- error output.
+-- A call with this status reported this: the status is the report's, and the report's line is reported on the error output.
 pub record Tells (err : Puts) (status : ℕ) (said : Said) : Type 0 where
   pub is : status ≡ said.status
   pub reported : Reports err said.line
 
 -- ---- ends
 
--- the status and the line are those of this report
+-- the status and the line are the report's
 abbrev pub Says : (status : ℕ) (line : List ℕ) → Said → Type 0
 Says status line said = (status ≡ said.status) × (line ≡ said.line)
 

@@ -3,7 +3,7 @@ pub mod Count
 pub mod LoadFail
 pub mod PutFail
 pub mod Told
--- What is told of any order of files.
+-- Definitions for any order of files.
 pub mod Ends
 pub mod Order
 pub mod Said

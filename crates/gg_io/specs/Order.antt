@@ -1,5 +1,5 @@
--- The order of a command: its files, one after another, each loaded and then checked, and then its text. So it is also
--- the order of refusals. It doesn't say how a file is checked. A new fault of a file is a new case of `refuses`.
+-- The order of a command: its files, one after another, each loaded and then checked, and then its text. It is also the order of refusals.
+-- It doesn't say how a file is checked. A new fault of a file is a new case of `refuses`.
 -- Source: this program's own.
 use Rattle.std.specs.Prelude.{◌≡◌, ℕ, ◌<◌, ◌≤◌, List, length, ◌⊎◌}
 use Rattle.gg_io.specs.Told.{Told, Holds, CanHold, CanBeOver}
@@ -18,11 +18,11 @@ pub data Order : Type 1 where
   Load : (file : File) (next : List ℕ → Order) → Order
   Write : (IsText : List ℕ → Type 0) → Order
 
--- a status with which the bytes of a file are refused: 1 for circuits, 6 for partitions, 7 for traces, 9 for steps, 10 for snapshots
+-- the status for refused bytes of a file: 1 for circuits, 6 for partitions, 7 for traces, 9 for steps, 10 for snapshots
 abbrev pub IsJudgement : ℕ → Type 0
 IsJudgement status = (status ≡ 1) ⊎ ((status ≡ 6) ⊎ ((status ≡ 7) ⊎ ((status ≡ 9) ⊎ (status ≡ 10))))
 
--- This is such a text, and the only one.
+-- The text has this property, and no other text has it.
 pub record IsOnly (IsText : List ℕ → Type 0) (text : List ℕ) : Type 0 where
   pub is : IsText text
   pub only : (other : List ℕ) → IsText other → other ≡ text
@@ -34,7 +34,7 @@ pub record IsExactFile (file : File) : Type 0 where
   pub one_status : (bytes : List ℕ) (said other : Said) → file.refuses bytes said → file.refuses bytes other → said.status ≡ other.status
   pub judges : (bytes : List ℕ) (said : Said) → file.refuses bytes said → IsJudgement said.status
 
--- the same for each file of an order
+-- `IsExactFile` for each file of an order
 abbrev pub IsExact : Order → Type 0
 IsExact (Load file next) = IsExactFile file × ((bytes : List ℕ) → IsExact (next bytes))
 IsExact (Write IsText) = Unit {0}
@@ -43,13 +43,13 @@ IsExact (Write IsText) = Unit {0}
 abbrev pub IsUniqueFile : File → Type 0
 IsUniqueFile file = (bytes : List ℕ) (said other : Said) → file.refuses bytes said → file.refuses bytes other → said ≡ other
 
--- the same for each file of an order
+-- `IsUniqueFile` for each file of an order
 abbrev pub IsUnique : Order → Type 0
 IsUnique (Load file next) = IsUniqueFile file × ((bytes : List ℕ) → IsUnique (next bytes))
 IsUnique (Write IsText) = Unit {0}
 
--- What is reported for the load of a file of this name, of which this is known, if it may have this many bytes. `lost` means that a
--- load failed, and `cut` that a load was cut at its limit.
+-- What is reported for the load of a file of this name that may have at most `limit` bytes. `told` is what is known of the file. `lost`
+-- means that a load failed, and `cut` that a load was cut at its limit.
 abbrev pub LoadReports : (told : Told) (lost cut : Type 0) (name : List ℕ) (limit : ℕ) → Said → Type 0
 LoadReports told lost cut name limit said =
     -- The load failed.
@@ -103,7 +103,7 @@ module _ (files : List ℕ → Told) where
       × (IsDueOf file bytes said ⊎ ((length bytes ≤ file.limit) × file.accepts bytes × DueAt (next bytes) said))
   DueAt (Write IsText) said = ⊥
 
-  -- Each file is known, within its limit and accepted. So nothing may be refused.
+  -- Each file is known, within its limit and accepted. Nothing may be refused then.
   abbrev pub IsDueAccepted : Order → Type 0
   IsDueAccepted (Load file next) = (bytes : List ℕ) × IsTold file bytes × (length bytes ≤ file.limit) × file.accepts bytes
       × IsDueAccepted (next bytes)

@@ -90,7 +90,7 @@ impl From<AllocError> for Ending {
     }
 }
 
-/// A refusal with this status, whose line is these three parts and a line feed.
+/// A refusal with this status. Its line is these three parts and a line feed.
 ///
 /// # Errors
 ///

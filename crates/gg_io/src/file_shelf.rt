@@ -12,7 +12,7 @@ use std::fs;
 use std::io::Read;
 use std::rt::Files;
 
-// How many bytes one read asks for at most.
+// The most bytes that one read requests.
 const PART: usize = 4096;
 
 /// The files of the system, by path. Their contents are unknown to contracts.

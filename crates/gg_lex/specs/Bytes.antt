@@ -3,16 +3,16 @@
 use Rattle.std.specs.Prelude.{ℕ, Bool, false, ◌||◌, ◌&&◌, ◌==◌, nat_lt, if◌then◌else◌}
 use Rattle.std.specs.Char.{is_ascii_alphabetic, is_ascii_alphanumeric, is_ascii_digit, is_ascii_hexdigit}
 
--- The characters, other than letters and digits, by which classes, texts, comments and file information are defined,
--- with their ASCII codes.
+-- The characters, except letters and digits, that the definitions of classes, texts, comments and file information name, with their ASCII
+-- codes.
 abbrev pub tab : ℕ
 tab = 9
 
--- the space, which may stand between tokens, as a tab may
+-- the space, which may be between tokens, as a tab may
 abbrev pub space : ℕ
 space = 32
 
--- `"`, with which a text begins and ends
+-- `"`, the first and the last byte of a text
 abbrev pub quote : ℕ
 quote = 34
 
@@ -28,7 +28,7 @@ minus = 45
 abbrev pub zero_digit : ℕ
 zero_digit = 48
 
--- `;`, with which a comment begins
+-- `;`, the first byte of a comment
 abbrev pub semicolon : ℕ
 semicolon = 59
 
@@ -40,15 +40,15 @@ at_sign = 64
 abbrev pub open_bracket : ℕ
 open_bracket = 91
 
--- `\`, by which a quote may stand in a text, and a `]` in a file information
+-- `\`, which goes before a quote in a text, and before a `]` in a file information
 abbrev pub backslash : ℕ
 backslash = 92
 
--- `]`, with which a file information ends
+-- `]`, the last byte of a file information
 abbrev pub close_bracket : ℕ
 close_bracket = 93
 
--- `_`, which may stand anywhere in a name
+-- `_`, which may be anywhere in a name
 abbrev pub underscore : ℕ
 underscore = 95
 
@@ -56,7 +56,7 @@ underscore = 95
 abbrev pub is_blank : ℕ → Bool
 is_blank b = b == space || b == tab
 
--- a letter or `_`, with which a word may begin
+-- a letter or `_`, which may begin a word
 abbrev pub starts_word : ℕ → Bool
 starts_word b = is_ascii_alphabetic b || b == underscore
 
@@ -68,8 +68,8 @@ is_binary_digit b = b == 48 || b == 49
 abbrev pub is_octal_digit : ℕ → Bool
 is_octal_digit b = nat_lt 47 b && nat_lt b 56
 
--- The digits that may follow a letter: each radix has its letter, `b` for 2, `o` for 8, `d` for 10 and `h` for 16, whose
--- digits may be of either case. No digit may follow any other letter.
+-- The digits that may follow a letter. Each radix has its letter: `b` for 2, `o` for 8, `d` for 10 and `h` for 16. The digits after `h` may
+-- be of either case. No digit may follow any other letter.
 abbrev pub is_digit_behind : ℕ → ℕ → Bool
 is_digit_behind letter b =
     if letter == 98 then is_binary_digit b

@@ -46,7 +46,7 @@ Begins [] bs rest = rest ≡ bs
 Begins (t ∷ ts) bs rest =
     (kind : TokenKind) × (n : ℕ) × IsFirst kind (after_blanks bs) n × (t ≡ token_of kind (take n (after_blanks bs))) × Begins ts (drop n (after_blanks bs)) rest
 
--- these are the tokens of the line, and behind them is only what may follow the last token
+-- these are the tokens of the line, and after them is only what may follow the last token
 pub record AreTokens (ts : List Tok) (line : List ℕ) : Type 0 where
   pub rest : List ℕ
   pub before : Begins ts line rest

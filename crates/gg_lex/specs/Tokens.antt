@@ -49,8 +49,8 @@ IsDecimal (b ∷ bs) = MatchBool (b == minus) (IsDigits bs) (IsDigits (b ∷ bs)
 abbrev pub AreDigitsBehind : ℕ → List ℕ → Type 0
 AreDigitsBehind letter bs = (0 < length bs) × AllPass (is_digit_behind letter) bs
 
--- a number with its radix: `0`, the letter of the radix, and digits, as in `0h1f`; a `-` may stand before the `0` or before
--- the digits, but not before both
+-- a number with its radix: `0`, the letter of the radix, and digits, as in `0h1f`; a `-` may be before the `0` or before the digits, but
+-- not before both
 pub record IsRadixNumber (bs : List ℕ) : Type 0 where
   pub letter : ℕ
   pub digits : List ℕ

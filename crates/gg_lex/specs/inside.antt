@@ -1,4 +1,4 @@
--- Definitions that no promise of the program speaks of: those of single functions, and those of proofs.
+-- Definitions that no promise of the program reaches: for single functions, and for proofs.
 pub mod Ends
 pub mod FaultText
 pub mod Fronts

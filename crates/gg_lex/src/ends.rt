@@ -54,7 +54,7 @@ fn opens_info(bytes: &[u8]) -> bool
     bytes.len() >= 2 && bytes[0] == b'@' && bytes[1] == b'['
 }
 
-// The first place from 1 on that has no backslash and is followed by a `]`.
+// The first place, except 0, that has no backslash and is followed by a `]`.
 fn closing_bracket(bytes: &[u8]) -> Option<usize>
     ensures { FindsBracket bytes.now result }
 {

@@ -7,7 +7,7 @@ use Rattle.gg_flat.specs.Streams.{Flow}
 
 -- ---- streams
 
--- The stream of a link: the list of a channel, from place `start` on. A channel without a list has an empty one.
+-- The stream of a link: the list of a channel, starting at place `start`. A channel without a list has an empty stream.
 abbrev pub stream_of : Flow → ℕ → ℕ → List ℕ
 stream_of flow which start = drop start (slice_index_or flow.lists which [])
 
@@ -38,9 +38,9 @@ pub record Starts (seat : SeatState) (values : List ℕ) (places counted saw : �
   pub seen : seat.seen ≡ saw
   pub looks : seat.looks ≡ 0
 
--- ---- what a call does to its seat
+-- ---- the effect of a call on its seat
 
--- The seat stays at its stream, and what it has seen doesn't fall.
+-- The seat stays at its stream, and has seen no less than before.
 pub record SeatWentOn (old new : SeatState) : Type 0 where
   pub stream : new.stream ≡ old.stream
   pub capacity : new.capacity ≡ old.capacity
@@ -52,7 +52,7 @@ pub record Counted (old new : SeatState) : Type 0 where
   pub went_on : SeatWentOn old new
   pub count : new.count ≡ old.count + 1
 
--- A count of 64 bits rose, or stands at its end.
+-- A count of 64 bits rose, or is at its end.
 abbrev pub Rose : ℕ → ℕ → Type 0
 Rose old new = (old < new) ⊎ (new ≡ 18446744073709551615)
 
@@ -71,7 +71,7 @@ pub record FoundEmpty (old new : SeatState) : Type 0 where
   pub looked : Rose old.looks new.looks
   pub empty : new.seen ≡ new.count
 
--- ---- what is left in a link
+-- ---- the values left in a link
 
 -- The values that were put and not taken.
 abbrev pub between : SeatState → SeatState → List ℕ

@@ -1,14 +1,15 @@
 //! Links: the channels of a network between threads.
 //!
 //! A link carries the values of one stream, in order, from one thread to another. The thread that puts has one seat of
-//! the link, the thread that takes has the other. The stream is the list of a channel from some place on ([`Streams`]),
-//! and has at most 1,000,001 values. What [`Link`] promises holds whatever the two threads do at the same time:
+//! the link, the thread that takes has the other. The stream is the list of a channel, starting at some place
+//! ([`Streams`]), and has at most 1,000,001 values. What [`Link`] promises holds whatever the two threads do at the
+//! same time:
 //!
-//! - `make` moves what is held into the link, in order; if it is refused, what is held stays;
+//! - `make` moves the tokens of `held` into the link, in order; if it fails, they stay;
 //! - each `put` that is accepted adds the stream's next value, and each value that `take` returns is the stream's next;
 //! - `put` refuses a value only after it has looked how many were taken, and found the link full by that;
 //! - `take` returns none only after it has looked how many were put, and found none left;
-//! - `close` returns exactly the values that were put and not taken, in order, at most as many as the capacity.
+//! - `close` returns exactly the values that were put and not taken, in order, and at most the capacity of them.
 #![tactic(auto)]
 
 ghost use Rattle.std.specs.Prelude.{◌≡◌, ℕ, ◌+◌, ◌≤◌, List, [], ◌++◌, length, slice_get, Some, IfOk, MatchResult, MatchOption};
@@ -28,7 +29,7 @@ pub struct Full {
 
 /// Carries the values of one stream between two threads.
 pub trait Link: Send + Sync + Drop {
-    /// What a link needs to be made.
+    /// The resources that a link is made with.
     type Home: Copy + Send;
 
     /// The seat of the thread that puts.
@@ -43,18 +44,18 @@ pub trait Link: Send + Sync + Drop {
     // Whether the seat was made with this link.
     ghost takes_from: { Self → Self.TakeSeat → Type 0 };
 
-    // What a contract sees of the seat.
+    // The seat as contracts see it.
     ghost putting: { Self.PutSeat → SeatState };
 
-    // What a contract sees of the seat.
+    // The seat as contracts see it.
     ghost taking: { Self.TakeSeat → SeatState };
 
-    /// Makes a link for the list of channel `which` from place `start` on, and its two seats. What is held moves into
-    /// the link, and the deque keeps its room. The link holds at most `capacity` values, which is at least 1.
+    /// Makes a link and its two seats for the list of channel `which`, starting at place `start`. The values of `held`
+    /// move into the link, and the deque keeps its room. The link holds at most `capacity` values, which is at least 1.
     ///
     /// # Errors
     ///
-    /// Returns `AllocError` if an allocation fails. What is held stays.
+    /// Returns `AllocError` if an allocation fails. The values of `held` then stay.
     fn make<Z: Streams>(
         home: Self::Home,
         alloc: Global,
@@ -92,8 +93,8 @@ pub trait Link: Send + Sync + Drop {
             (λ value. Counted (taking seat.old) (taking seat.new)
             × (slice_get (taking seat.old).stream (taking seat.old).count ≡ Some value)) };
 
-    /// Closes the link. The values that are left in it move behind those in the deque, which has room for the link's
-    /// capacity beside them, and keeps its room.
+    /// Closes the link. The values that are left in it are added at the end of the deque, which needs room for the
+    /// link's capacity besides its values, and keeps its room.
     fn close(self, put: Self::PutSeat, take: Self::TakeSeat, into: &mut VecDeque<u128>)
         requires seats { puts_into self put × takes_from self take }
         requires room { deque_len into.old + (putting put).capacity ≤ deque_capacity into.old }

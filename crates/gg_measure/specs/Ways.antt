@@ -1,4 +1,4 @@
--- Networks to which steps lead. What the crate's laws say of networks, layouts and counts.
+-- Networks that steps lead to. These are definitions for the crate's laws about networks, layouts and counts.
 -- Source: MEMOCODE 2009 (a network goes on by steps, one node at a time; its state follows from counts).
 use Rattle.std.specs.Prelude.{List, Some, map}
 use Rattle.gg_net.specs.declared.event.Event.{Event}

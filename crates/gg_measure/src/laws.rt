@@ -17,8 +17,8 @@ ghost use Rattle.gg_measure.specs.inside.Nets.{AreDrained, HaveKept, dues_at, ne
 ghost use Rattle.gg_net.specs.Network.{AllStandAt};
 
 /// The layout of a network that is kept can run. The counts are allowed and have begun. The measure of the network is
-/// that of its marking. Before the first cycle it is a product: the number of cycles times the sum of twice the channels,
-/// the machines and the served ports.
+/// its marking's. Before the first cycle it is a product: the number of cycles times the sum of twice the channels, the
+/// machines and the served ports.
 pub fn nets_are_allowed()
     ensures runs { OfEachKept (λ flow net layout. CanRun layout × IsMarkingOf layout (marking_of net)) }
     ensures allowed { OfEachKept (λ flow net layout. IsAllowed layout (counts_in layout net)) }
@@ -28,14 +28,14 @@ pub fn nets_are_allowed()
         * (2 * length net.wires + length net.machines + sum_below (dues_at net) (length net.machines))) }
 {}
 
-/// From a network steps lead to each other with the same frame and the same flow whose counts are nowhere lower.
+/// From a network steps lead to each network with the same frame and the same flow, if no count is lower there.
 pub fn steps_up()
     ensures { OfEachKept (λ flow old layout. (goal : Network) → Kept flow goal → frame_of goal ≡ frame_of old
         → AreAtMost layout (counts_in layout old) (counts_in layout goal) → LeadsTo old goal) }
 {}
 
-/// From a network steps lead to one with any allowed counts that are nowhere lower. From a network before its first
-/// cycle they lead to one with these counts exactly if the counts are allowed and have begun.
+/// From a network steps lead to a network with any allowed counts that are nowhere lower. From a network before its
+/// first cycle they lead to a network with these counts exactly if the counts are allowed and have begun.
 pub fn made_by_counts()
     ensures up { OfEachKept (λ flow old layout. (counts : Counts) → IsAllowed layout counts
         → AreAtMost layout (counts_in layout old) counts → LeadsToCounts layout old counts) }
@@ -53,7 +53,7 @@ pub fn reached_exactly()
 {}
 
 /// A step lowers the measure by one, and a list of steps by its length. A list of steps can be lengthened exactly if it
-/// has fewer steps than the measure where it begins.
+/// has fewer steps than the measure at its start.
 pub fn steps_fall()
     ensures one { (flow : Flow) (old new : Network) (event : Event) → Kept flow old → Step old event new → suc (net_left new) ≡ net_left old }
     ensures all { (flow : Flow) (old new : Network) (events : List (Option Event)) → Kept flow old → Steps old events new → length events + net_left new ≡ net_left old }
@@ -61,8 +61,8 @@ pub fn steps_fall()
         → (length events < net_left old) ↔ ((event : Event) × (next : Network) × Step new event next) }
 {}
 
-/// A list of steps that can't be lengthened has as many steps as the measure where it begins. It ends with all machines
-/// at the end. Each queue then holds as many tokens as it opened with, and each tray has kept the last values of its
+/// A list of steps that can't be lengthened has as many steps as the measure at its start. It ends with all machines at
+/// the end. Each queue then contains as many tokens as it opened with, and each tray has kept the last values of its
 /// channel.
 pub fn steps_end_so()
     ensures count { (flow : Flow) (old new : Network) (events : List (Option Event)) → Kept flow old → Steps old events new → ((event : Event) → Ready new event → ⊥) → length events ≡ net_left old }
@@ -71,7 +71,7 @@ pub fn steps_end_so()
     ensures kept { (flow : Flow) (old new : Network) (events : List (Option Event)) → Kept flow old → Steps old events new → ((event : Event) → Ready new event → ⊥) → HaveKept flow new }
 {}
 
-/// The measure of a network is 0 exactly if all machines stand at the end.
+/// The measure of a network is 0 exactly if all machines are at the end.
 pub fn none_left()
     ensures { (flow : Flow) (net : Network) → Kept flow net → (net_left net ≡ 0) ↔ AllStandAt net.end net }
 {}

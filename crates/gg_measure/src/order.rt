@@ -1,10 +1,10 @@
-//! `Order`: the steps of one cycle, remembered in the order in which they were done.
+//! `Order`: the steps of one cycle, as they were done one after another.
 use gg_net::{Event, Net, Streams};
 use gg_node::Host;
 use std::alloc::{AllocError, Global};
 
-/// The steps of one cycle of a network, in the order in which they were done. An order owes nothing: it says what is tried
-/// next, and not what is done. So an empty one is right, and one of another network.
+/// The steps of one cycle of a network, as they were done one after another. An order has no invariant: it says only what
+/// is tried next. Therefore an empty order is right, and so is one of another network.
 #[derive(Drop)]
 pub struct Order {
     events: Vec<Event>,
@@ -25,7 +25,7 @@ fn steps_of<H: Host, Z: Streams>(net: &Net<H, Z>) -> usize {
 }
 
 impl Order {
-    /// An order without steps, with room for those of a cycle.
+    /// Returns an order without steps, with room for the steps of a cycle.
     ///
     /// # Errors
     ///
@@ -37,7 +37,7 @@ impl Order {
         })
     }
 
-    /// An order without steps and without room: nothing is remembered. Allocates nothing.
+    /// An order without steps and without room, which never notes a step. Allocates nothing.
     pub fn none(alloc: Global) -> Order {
         Order {
             events: Vec::new(alloc),
@@ -50,12 +50,12 @@ impl Order {
         self.events.is_empty()
     }
 
-    // Notes steps from now on.
+    // Notes each step after this call.
     pub(crate) fn open(&mut self) {
         self.is_open = true;
     }
 
-    // Notes no steps from now on.
+    // Notes no step after this call.
     pub(crate) fn close(&mut self) {
         self.is_open = false;
     }
@@ -67,7 +67,7 @@ impl Order {
         }
     }
 
-    /// The steps, in the order in which they were done.
+    /// The steps, as they were done one after another.
     pub fn events(&self) -> &[Event] {
         &self.events
     }

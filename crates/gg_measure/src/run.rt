@@ -1,4 +1,4 @@
-//! `run_to`: steps in the fixed order. `run_by` and `run_noted`: the same cycle by cycle, by an order that is remembered.
+//! `run_to`: steps in the fixed order. `run_by` and `run_noted`: cycle by cycle, by an order that was noted.
 ghost use Rattle.std.specs.Prelude.{◌≡◌, ℕ, ◌<◌, ◌≤◌, true, length};
 ghost use Rattle.gg_net.specs.Network.{frame_of};
 ghost use Rattle.gg_measure.specs.inside.Nets.{AreDrained, HaveKept, StaysWithin, HasRun, net_left};
@@ -20,7 +20,7 @@ fn go_round<H: Host, Z: Streams>(net: &mut Net<H, Z>, order: &mut Order, cycle: 
     round(net, order, cycle)
 }
 
-// Goes round the machines until all stand at a cycle.
+// Goes round the machines until all are at a cycle.
 fn run_rounds<H: Host, Z: Streams>(net: &mut Net<H, Z>, order: &mut Order, cycle: u64)
     requires within { cycle ≤ net.old.end }
     requires none_above { (m : ℕ) → m < length net.old.machines → cycle_at net.old m ≤ cycle }
@@ -38,9 +38,21 @@ fn run_rounds<H: Host, Z: Streams>(net: &mut Net<H, Z>, order: &mut Order, cycle
     net.kept();
 }
 
-/// Does steps of the machines that are below a cycle until all stand at it, in a fixed order: the machines by number, and
-/// for each all tokens that it may take, by its ins, then all that it may give, by its outs, then its ports, then the end
-/// of its cycle; and again. Allocates nothing.
+/// Does steps of the machines that are below a cycle until all are at it. Allocates nothing.
+///
+/// The machines have their turns by number, again and again. In its turn a machine takes all tokens that it may take, by its ins, gives all that it
+/// may give, by its outs, serves its ports, and ends its cycle.
+///
+/// # Examples
+///
+/// A network of 3 machines is before its first cycle, 0, and has 10 cycles to do.
+///
+/// ```text
+/// run_to(&mut net, 4);  // all machines are in cycle 4: `net.cycle(0)`, `net.cycle(1)` and `net.cycle(2)` are 4
+/// net.puts(0)           // 4: one token of channel 0 for each of the cycles 0 to 3
+/// run_to(&mut net, 4);  // changes nothing
+/// run_to_end(&mut net); // all machines are in cycle 10, and `left(&net)` is 0
+/// ```
 pub fn run_to<H: Host, Z: Streams>(net: &mut Net<H, Z>, cycle: u64)
     requires within { cycle ≤ net.old.end }
     requires none_above { (m : ℕ) → m < length net.old.machines → cycle_at net.old m ≤ cycle }
@@ -53,7 +65,7 @@ pub fn run_to<H: Host, Z: Streams>(net: &mut Net<H, Z>, cycle: u64)
     run_rounds(net, &mut none, cycle);
 }
 
-/// Does steps until all machines stand at the end. Each queue then holds as many tokens as it opened with.
+/// Does steps until all machines are at the end. Each queue then contains as many tokens as it opened with.
 pub fn run_to_end<H: Host, Z: Streams>(net: &mut Net<H, Z>)
     ensures there { AllStandAt net.old.end net.new }
     ensures steps { HasRun net.old.end net.old net.new }
@@ -132,8 +144,7 @@ fn follow<H: Host, Z: Streams>(net: &mut Net<H, Z>, order: &Order, cycle: u64)
     }
 }
 
-/// Brings all machines to a cycle by an order that was noted before, which stays as it is. What the order leaves is done
-/// as `run_to` does it.
+/// Brings all machines to a cycle by an order that was noted before, which stays as it is. The steps that the order leaves are done as by `run_to`.
 pub fn run_noted<H: Host, Z: Streams>(net: &mut Net<H, Z>, order: &Order, cycle: u64)
     requires within { cycle ≤ net.old.end }
     requires none_above { (m : ℕ) → m < length net.old.machines → cycle_at net.old m ≤ cycle }
@@ -147,9 +158,8 @@ pub fn run_noted<H: Host, Z: Streams>(net: &mut Net<H, Z>, order: &Order, cycle:
     run_to(net, cycle);
 }
 
-/// Brings all machines to a cycle as `run_to` does, but cycle by cycle: all stand at one before any goes on. So each cycle
-/// has the same steps in the same order. The steps of the first are noted in the order, if it is empty, and those of the
-/// others are done by it.
+/// Brings all machines to a cycle as `run_to` does, but cycle by cycle: all are at one cycle before any goes on. Therefore each cycle has the same
+/// steps in the same order. If the order is empty, it notes the steps of the first cycle. The other cycles go by the order.
 pub fn run_by<H: Host, Z: Streams>(net: &mut Net<H, Z>, order: &mut Order, cycle: u64)
     requires within { cycle ≤ net.old.end }
     requires none_above { (m : ℕ) → m < length net.old.machines → cycle_at net.old m ≤ cycle }

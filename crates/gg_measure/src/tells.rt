@@ -71,7 +71,7 @@ fn find_event<H: Host, Z: Streams>(net: &Net<H, Z>) -> Option<Event>
     None
 }
 
-/// An event that may be done; None exactly if all machines stand at the end.
+/// An event that may be done; None exactly if all machines are at the end.
 pub fn possible<H: Host, Z: Streams>(net: &Net<H, Z>) -> Option<Event>
     ensures { MatchOption result (AllStandAt net.now.end net.now) (λ event. Ready net.now event × (AllStandAt net.now.end net.now → ⊥)) }
 {
@@ -79,7 +79,7 @@ pub fn possible<H: Host, Z: Streams>(net: &Net<H, Z>) -> Option<Event>
     find_event(net)
 }
 
-// What is left of a channel: the tokens that are still to be put, and those that are still to be taken.
+// The steps that are left of a channel: the tokens that are still to be put, and the tokens that are still to be taken.
 fn channel_left<H: Host, Z: Streams>(net: &Net<H, Z>, channel: u32) -> u64
     requires { channel < length net.now.wires }
     ensures { result ≡ wire_left net.now channel }
@@ -91,8 +91,8 @@ fn channel_left<H: Host, Z: Streams>(net: &Net<H, Z>, channel: u32) -> u64
     puts + takes
 }
 
-// What is left of a machine: the cycles that it still has to finish, and the times that its ports are still to be
-// served.
+// The steps that are left of a machine: the cycles that it still has to finish, and the times that its ports are still
+// to be served.
 fn machine_left<H: Host, Z: Streams>(net: &Net<H, Z>, machine: u32) -> u64
     requires { machine < length net.now.machines }
     ensures { result ≡ machine_left net.now machine }

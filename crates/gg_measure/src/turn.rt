@@ -11,7 +11,7 @@ use gg_bits::either;
 use gg_net::{Event, Net, Streams};
 use gg_node::Host;
 
-// Latches the front tokens of all channels into a machine for which that may be done. Returns whether it was for any.
+// Latches the front tokens of all channels into a machine that may be latched. Returns whether there was one.
 fn latch_all<H: Host, Z: Streams>(
     net: &mut Net<H, Z>,
     order: &mut Order,
@@ -35,7 +35,7 @@ fn latch_all<H: Host, Z: Streams>(
     moved
 }
 
-// Gives the tokens of all channels of a machine for which that may be done. Returns whether it was for any.
+// Gives the tokens of all channels of a machine that may be fired. Returns whether there was one.
 fn fire_all<H: Host, Z: Streams>(
     net: &mut Net<H, Z>,
     order: &mut Order,

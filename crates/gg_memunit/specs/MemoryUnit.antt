@@ -41,7 +41,7 @@ abbrev pub port_of : ℕ → Access → Port
 port_of readers (ByReader r reader) = record { number = r; access = ByReader r reader }
 port_of readers (ByWriter w writer) = record { number = readers + w; access = ByWriter w writer }
 
--- the ports of a cycle in the order in which they are served
+-- the ports that are served in a cycle, in their order
 abbrev pub ports_by : Latency → List Reader → List Writer → List Port
 ports_by latency readers writers = map (port_of (length readers)) (due_of latency readers writers)
 
@@ -55,7 +55,8 @@ abbrev pub ports_of : List Memory → List Port
 ports_of [] = []
 ports_of (memory ∷ memories) = ports_by memory.latency memory.readers memory.writers
 
--- the ins that the data of a reader needs: its address and its enable if it gives the word in the same cycle, else none
+-- the ins that the data of a reader needs: its address and its enable if it gives the word in the same cycle, otherwise
+-- none
 abbrev pub needs_by : Latency → Reader → List ℕ
 needs_by Zero reader = reader.addr ∷ reader.en ∷ []
 needs_by (One under) reader = []

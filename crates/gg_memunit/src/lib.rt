@@ -5,8 +5,8 @@
 //!
 //! - [`MemUnit`] is such a machine. Each step changes it as the definitions of gg_node say. A `serve` does one access,
 //!   in the order that a memory requires: late readers of old words, then writers, then late readers of new words. A
-//!   port whose clock has no edge in the cycle is served too, and nothing changes;
-//! - a memory whose ports were all served has the contents that it would have after the cycle in a piece
+//!   port is also served if its clock has no edge in the cycle, and then nothing changes;
+//! - after all ports of a memory were served, it has the contents that it would have after the cycle in a piece
 //!   (`served_through`).
 //!
 //! Only `with_clocks` and `from_state` allocate.

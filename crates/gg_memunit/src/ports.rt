@@ -1,4 +1,4 @@
-//! The ports of a memory: what they need, and the order in which they are served.
+//! The ports of a memory: what they need, and the order of their service.
 ghost use Rattle.std.specs.Prelude.{◌≡◌, ◌+◌, ◌<◌, ◌^◌, length, slice_get};
 ghost use Rattle.gg_flat.specs.Memory.{LooksAmong};
 ghost use Rattle.gg_node.specs.Machine.{first_empty};

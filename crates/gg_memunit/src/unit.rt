@@ -1,4 +1,4 @@
-//! `MemUnit`: a memory whose ports are served one by one.
+//! `MemUnit`: a memory that is served port by port.
 ghost use Rattle.std.specs.Prelude.{◌≡◌, ℕ, ◌<◌, ◌≤◌, List, [], ◌∷◌, None, false, length, replicate, is_some, slice_set, IfOk};
 ghost use Rattle.gg_bits.specs.Limits.{cycle_limit};
 ghost use Rattle.gg_flat.specs.State.{IsState};
@@ -20,6 +20,27 @@ use std::marker::Model;
 
 /// A memory as a machine of its own. Its ports are served one by one. It is a host of one thread. Its ins are the
 /// fields of the memory's ports, and its outs are the data of the readers. A contract sees it as this machine.
+///
+/// # Examples
+///
+/// ```
+/// // A memory with one reader, which gives its word in the same cycle, and one writer. The ins are the reader's address
+/// // and enable, then the writer's address, enable, data and mask. No port has a clock, so each tick has its edge.
+/// let mut unit = MemUnit::with_clocks(alloc, piece, &[])?;
+/// unit.latch(0, 0, 3);
+/// unit.latch(0, 1, 1);
+/// unit.fire(0, 0); // 0, the word at address 3
+/// unit.latch(0, 2, 3);
+/// unit.latch(0, 3, 1);
+/// unit.latch(0, 4, 7);
+/// unit.latch(0, 5, 1);
+/// unit.due(0); // Some(1): port 0 is the reader, which needs no step
+/// unit.serve(0, 1);
+/// unit.finish(0);
+/// unit.latch(0, 0, 3);
+/// unit.latch(0, 1, 1);
+/// unit.fire(0, 0); // 7
+/// ```
 pub struct MemUnit {
     piece: Piece,
     // what its memory holds, as the accesses so far have made it
@@ -90,7 +111,7 @@ struct Slots {
     flags: Vec<bool>,
 }
 
-// Those of a unit before its first access.
+// The slots of a unit before its first access.
 fn empty_slots(alloc: Global, piece: &Piece) -> Result<Slots, AllocError>
     ensures inputs { IfOk result (λ slots. slots.inputs.items ≡ replicate (length piece.now.ins) 0) }
     ensures latches { IfOk result (λ slots. slots.latches.items ≡ replicate (length piece.now.ins) None) }

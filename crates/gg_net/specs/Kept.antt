@@ -1,5 +1,5 @@
--- What holds of a network at all times, given the flow of values that its channels have to carry. Each machine is in
--- the state of its run. Each latch, flag and queue is what the lists and the counts say.
+-- The invariant of a network, given the flow of values for its channels. Each machine is in the state of its run. Each latch, flag and queue agrees
+-- with the lists and the counts.
 -- Source: MEMOCODE 2009 (the k-th token of each queue is the signal's value in cycle k; a queue holds the tokens that
 -- were put and not yet taken, at most its bound; without a ring among dependencies the network can go on); ICCAD 2019
 -- for memories that are served port by port.
@@ -59,19 +59,19 @@ abbrev pub ServesRows : FlatCircuit → Start → List (List ℕ) → ℕ → Li
 ServesRows piece start rows end [] = ⊤
 ServesRows piece start rows end (port ∷ ports) = (t : ℕ) → start.cycle ≤ t → t < end → served_by (edges_at start.ratios t) (ins_of piece (row_at rows t)) (run_state piece start rows t) (port ∷ ports) ≡ run_state piece start rows (suc t)
 
--- The rows of a machine that runs a piece are a run of it, on the columns of its own in-signals. What an out gives
--- depends only on the ins that it needs, and the next state only on all ins.
+-- The rows of a machine that runs a piece are a run of it, on the columns of its own in-signals. The value of an out depends only on the ins that it
+-- needs, and the next state only on all ins.
 pub record RunsRows (piece : FlatCircuit) (kind : Kind) (start : Start) (rows : List (List ℕ)) (end : ℕ) : Type 0 where
   pub formed : IsWellFormed piece
   pub once : SettlesOnce piece
-  -- the ins that an out needs tell its value, whatever the others are
+  -- the ins that an out needs determine its value, whatever the others are
   pub suffice : (o : ℕ) → o < length piece.outs → DependsOn piece (value_at piece.outs o) (needs_at kind.needs o)
   pub ins : kind.ins ≡ length piece.ins
   pub outs : kind.outs ≡ length piece.outs
   pub is : IsRunFrom piece start (in_columns piece rows) (since start.cycle end) (drop start.cycle rows)
   pub serves : ServesRows piece start rows end kind.ports
 
--- what a machine does for all its cycles
+-- the run of a machine through all its cycles
 abbrev pub Runs : Behaviour → Kind → Start → List (List ℕ) → ℕ → Type 0
 Runs (RunsPiece piece) kind start rows end = RunsRows piece kind start rows end
 Runs (GivesColumn column) kind start rows end = (end ≤ length column) × (kind.ports ≡ [])
@@ -89,9 +89,9 @@ Asks (RunsPiece piece) rows i t value = value_at (row_at rows t) (value_at piece
 Asks (GivesColumn column) rows i t value = ⊥
 Asks (KeepsLast kept) rows i t value = ⊤
 
--- A flow solves a network. Each machine can do all cycles, and its rows are a run. Each channel's list has a value for
--- each cycle: from the beginning on, it is what the consumer's in takes in that cycle, and what the producer's out
--- gives in that cycle or, if the channel opens with a token, in the cycle before. That token is the first of all.
+-- A flow solves a network. Each machine can do all cycles, and its rows are a run. Each channel's list has a value for each cycle since the
+-- beginning: the consumer's in takes it in that cycle. The producer's out gives it in that cycle or, if the channel opens with a token, in the cycle
+-- before. That token is the value of the first cycle.
 pub record Solves (flow : Flow) (frame : Frame) : Type 0 where
   pub begins : flow.begin ≤ frame.end
   pub able : (m : ℕ) → m < length frame.kinds → frame.end ≤ (kind_at frame.kinds m).limit
@@ -114,11 +114,11 @@ pub record IsInOrder (frame : Frame) : Type 0 where
 pub record IsWired (frame : Frame) : Type 0 where
   pub some : (c : ℕ) → c < length frame.wires → 0 < (wire_at frame.wires c).capacity
   pub producer : (c : ℕ) → c < length frame.wires → (wire_at frame.wires c).producer < length frame.kinds
-  -- the out of its producer, and below the in of its consumer
+  -- the out is one of its producer's, and below, the in is one of its consumer's
   pub out : (c : ℕ) → c < length frame.wires → (wire_at frame.wires c).out < (kind_at frame.kinds (wire_at frame.wires c).producer).outs
   pub consumer : (c : ℕ) → c < length frame.wires → (wire_at frame.wires c).consumer < length frame.kinds
   pub place : (c : ℕ) → c < length frame.wires → (wire_at frame.wires c).place < (kind_at frame.kinds (wire_at frame.wires c).consumer).ins
-  -- each in has a channel, and each out
+  -- each in has a channel, and so has each out
   pub into : (m i : ℕ) → m < length frame.kinds → i < (kind_at frame.kinds m).ins → (c : ℕ) × IsAtIn frame.wires m i c
   pub from : (m o : ℕ) → m < length frame.kinds → o < (kind_at frame.kinds m).outs → (c : ℕ) × IsAtOut frame.wires m o c
   -- so two channels don't lead to one in, nor come from one out
@@ -139,7 +139,7 @@ pub record HasNoRing (frame : Frame) : Type 0 where
   pub ranks : List ℕ
   pub lower : (c d : ℕ) → NeedsChannel frame c d → value_at ranks d < value_at ranks c
 
--- What no step changes: the network is wired, has no ring, and is solved by the flow.
+-- The network is wired, has no ring, and is solved by the flow. No step changes this.
 pub record IsSound (flow : Flow) (frame : Frame) : Type 0 where
   pub wired : IsWired frame
   pub no_ring : HasNoRing frame
@@ -183,10 +183,10 @@ KeepsNone (RunsPiece piece) kept = kept ≡ []
 KeepsNone (GivesColumn column) kept = kept ≡ []
 KeepsNone (KeepsLast rows) kept = ⊤
 
--- This can be the machine at place m. It has the kind of that place. It is at or past the beginning, and has done at
--- most all cycles. Its state is that of its rows. A latch that isn't empty holds its channel's value of this cycle. An
--- out has given its token only if all that it needs was latched. Ports were served only after all outs had given their
--- tokens, with the ports' fields latched. A tray has kept the last values of its channel, another machine none.
+-- This can be the machine at place m. It has the kind of that place. Its cycle isn't before the beginning, nor past the end. Its state is the state
+-- of its rows. A latch that isn't empty contains its channel's value of this cycle. An out has given its token only if all that it needs was latched.
+-- Ports were served only after all outs had given their tokens, with the ports' fields latched. A tray has kept the last values of its channel,
+-- another machine none.
 pub record MachineAt (flow : Flow) (frame : Frame) (m : ℕ) (machine : Machine) : Type 0 where
   pub kind : kind_of machine ≡ kind_at frame.kinds m
   pub begun : flow.begin ≤ machine.cycle
@@ -202,11 +202,11 @@ pub record MachineAt (flow : Flow) (frame : Frame) (m : ℕ) (machine : Machine)
 
 -- ---- a network
 
--- What holds of a network at all times.
+-- The invariant of a network.
 pub record Kept (flow : Flow) (net : Network) : Type 0 where
   pub queues : length net.queues ≡ length net.wires
   pub sound : IsSound flow (frame_of net)
-  -- each machine is where its rows of the flow say in its cycle
+  -- each machine agrees with its rows of the flow in its cycle
   pub machines : (m : ℕ) → m < length net.machines → MachineAt flow (frame_of net) m (machine_at net.machines m)
-  -- a queue has the tokens of its channel's list from those that were taken to those that have entered, and no more than its capacity
+  -- a queue is the part of its channel's list that has entered and wasn't taken, and is no longer than the capacity
   pub channels : (c : ℕ) → c < length net.wires → BetweenAt (list_at flow.lists c) (wire_at net.wires c).capacity (takes net c) (entered net c) (queue_at net.queues c)

@@ -1,6 +1,6 @@
 -- A network as its program holds it: hosts with their machines, stations, channels and queues.
--- Source: MEMOCODE 2009 (a network before its first cycle: all latches and flags empty, and all queues but those that
--- open with a token); ICCAD 2019 for hosts.
+-- Source: MEMOCODE 2009 (a network before its first cycle: latches, flags and queues are empty, except queues that open
+-- with a token); ICCAD 2019 for hosts.
 use Rattle.std.specs.Prelude.{ℕ, List, map}
 use Rattle.gg_node.specs.Machine.{Machine}
 use Rattle.gg_net.specs.declared.shape.Wire.{Wire}

@@ -52,13 +52,14 @@ consumer_of net c = machine_at net.machines (wire_at net.wires c).consumer
 abbrev pub cycle_at : Network → ℕ → ℕ
 cycle_at net m = (machine_at net.machines m).cycle
 
--- all machines stand at this cycle
+-- all machines are in this cycle
 abbrev pub AllStandAt : ℕ → Network → Type 0
 AllStandAt cycle net = (m : ℕ) → m < length net.machines → cycle_at net m ≡ cycle
 
 -- ---- counts
 
--- One more if the flag is true. An out of a machine in this cycle has given so many tokens, if it has this flag.
+-- The number of tokens that an out has given, if its machine is in cycle `n` and its flag is this one: one more than
+-- `n` if the flag is true.
 abbrev pub and_one : ℕ → Bool → ℕ
 and_one n false = n
 and_one n true = suc n
@@ -76,7 +77,7 @@ puts net c = and_one (producer_of net c).cycle (flag_at (producer_of net c).flag
 abbrev pub takes : Network → ℕ → ℕ
 takes net c = got_by (consumer_of net c).cycle (latch_at (consumer_of net c).latches (wire_at net.wires c).place)
 
--- the number of tokens that have entered a channel, of which this many were put: these, and the one that it opens with
+-- the number of tokens that have entered a channel after `n` puts: `n`, and one more if it opens with a token
 abbrev pub entered_by : Option ℕ → ℕ → ℕ
 entered_by None n = n
 entered_by (Some token) n = suc n
@@ -95,10 +96,10 @@ opening_queue (Some token) = token ∷ []
 abbrev pub serves : Network → ℕ → ℕ
 serves net m = length (machine_at net.machines m).ports * (machine_at net.machines m).cycle + (machine_at net.machines m).served
 
--- ---- what no step changes
+-- ---- the parts that never change
 
 -- The parts of a machine that never change: what it does, the number of cycles that it can do, the ratios of its
--- clocks, what its outs need, the number of its ports, those that are served, and the numbers of ins and outs.
+-- clocks, the needs of its outs, the number of its ports, its served ports, and the numbers of ins and outs.
 pub record Kind : Type 0 where
   pub behaviour : Behaviour
   pub limit : ℕ
@@ -109,7 +110,7 @@ pub record Kind : Type 0 where
   pub ins : ℕ
   pub outs : ℕ
 
--- what doesn't change of a machine
+-- the parts of a machine that never change
 abbrev pub kind_of : Machine → Kind
 kind_of machine =
     record {
@@ -137,6 +138,6 @@ pub record Frame : Type 0 where
   pub wires : List Wire
   pub end : ℕ
 
--- what doesn't change of a network
+-- the parts of a network that never change
 abbrev pub frame_of : Network → Frame
 frame_of net = record { kinds = map kind_of net.machines; wires = net.wires; end = net.end }

@@ -1,7 +1,7 @@
--- When a step may be done, and why it is refused: the one table of steps, over what it looks at. A network has these
--- facts (`Step`), and so has a marking, which has counts of tokens in place of tokens.
+-- When a step may be done, and why it is refused: one table for all steps, over facts. A network has these facts (`Step`), and so has a marking, with
+-- counts of tokens in place of tokens.
 -- Source: MEMOCODE 2009 (when a node may take, give and finish); ICCAD 2019 for memories that are served port by port.
--- The order in which conditions are checked is this program's.
+-- The order of the checks is this program's.
 use Rattle.std.specs.Prelude.{ℕ, ◌==◌, List, Bool, true, false, not, Option, Some, None, filter, find, nat_lt}
 use Rattle.std.specs.List.{range_with_len}
 use Rattle.gg_bits.specs.Lists.{or_else}
@@ -10,16 +10,16 @@ use Rattle.gg_net.specs.declared.event.Event.TheVariants.{Latch, Fire, Serve, Fi
 use Rattle.gg_net.specs.declared.event.StepRefusal.{StepRefusal}
 use Rattle.gg_net.specs.declared.event.StepRefusal.TheVariants.{Stranger, Ended, Latched, Fired, NoToken, NeedsInput, Full, Order, Unfired, Unserved}
 
--- ---- what the table looks at
+-- ---- the facts of the table
 
 -- A port that is served: its number, and the channels of its fields.
 pub record Turn : Type 0 where
   pub number : ℕ
   pub fields : List ℕ
 
--- What decides a step. Channels, machines and ports are given by their numbers.
+-- The facts that decide a step. Channels, machines and ports are given by their numbers.
 pub record Facts : Type 0 where
-  -- how many channels and machines there are, and how many ports a machine has
+  -- the numbers of channels and machines, and each machine's number of ports
   pub channels : ℕ
   pub machines : ℕ
   pub ports : ℕ → ℕ
@@ -100,8 +100,7 @@ fire_refusal facts c =
     (or_else (needing facts (facts.needs c))
     (unless (nat_lt (facts.held c) (facts.capacity c)) (Full c (facts.held c))))))
 
--- `Serve`: the machine has the port; it has cycles left; all its channels are fired; the port is the one that is due;
--- the port's fields are latched
+-- `Serve`: the machine has the port; it has cycles left; all its channels are fired; the port is due; the port's fields are latched
 abbrev pub serve_refusal : Facts → ℕ → ℕ → Option StepRefusal
 serve_refusal facts m p =
     or_else (unless (nat_lt p (facts.ports m)) Stranger)

@@ -15,7 +15,7 @@ use Rattle.gg_net.specs.declared.shape.Wire.{Wire}
 use Rattle.gg_net.specs.Network.{Network, wire_at, queue_at, producer_of, consumer_of}
 use Rattle.gg_net.specs.Refusal.{Turn, Facts, refusal}
 
--- ---- what decides a step of a network
+-- ---- the facts of a network
 
 -- the latch of a channel's consumer
 abbrev pub latch_of : Network → ℕ → Option ℕ
@@ -42,12 +42,12 @@ channels_at wires m places = map (channel_into wires m) places
 abbrev pub turn_of : List Wire → ℕ → Port → Turn
 turn_of wires m port = record { number = port.number; fields = channels_at wires m (fields_of port.access) }
 
--- the same, if there is a port
+-- `turn_of` the port, if there is one
 abbrev pub turn_if : List Wire → ℕ → Option Port → Option Turn
 turn_if wires m None = None
 turn_if wires m (Some port) = Some (turn_of wires m port)
 
--- what decides the steps of a network
+-- the facts that decide the steps of a network
 abbrev pub facts_of : Network → Facts
 facts_of net =
     record {

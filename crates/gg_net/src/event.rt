@@ -1,4 +1,4 @@
-//! `Event` and `StepRefusal`: what a step of a network does, and why it is refused.
+//! `Event` and `StepRefusal`: the steps of a network, and why one is refused.
 
 /// A step of a network. Channels, machines and ports are given by their numbers.
 #[derive(Clone, Copy, PartialEq, Eq, Drop)]

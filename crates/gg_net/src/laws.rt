@@ -17,7 +17,7 @@ pub fn goes_once()
     ensures never { (net : Network) (event : Event) (cause : StepRefusal) → Ready net event → Refused net event cause → ⊥ }
 {}
 
-/// A network that is kept is determined by its flow, what no step changes, and its counts.
+/// A network that is kept is determined by its flow, its frame, and its counts.
 pub fn counted_once()
     ensures { (flow : Flow) (a b : Network) → Kept flow a → Kept flow b → frame_of a ≡ frame_of b → SameCounts a b → a ≡ b }
 {}

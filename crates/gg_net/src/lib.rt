@@ -5,13 +5,13 @@
 //! memory is served (`Serve`), or a cycle is finished (`Finish`). The crate promises:
 //!
 //! - [`Net::step`] does an event exactly if its conditions hold. It then changes the network as the definitions in
-//!   `specs/` say. Else it returns the first condition that fails, and the network stays as it was. [`Net::test`]
+//!   `specs/` say. Otherwise it returns the first condition that fails, and the network stays as it was. [`Net::test`]
 //!   returns what `step` would return.
 //! - After any events in any order, a network agrees with its lists of values ([`Net::kept`]). Each queue is the part
-//!   of the channel's list from the number of tokens taken to the number of tokens that have entered: those that were
-//!   put, and the one that the channel may open with. Each latch holds its channel's value of the cycle. Each machine
-//!   is in the state of its own run. A tray has kept the last values of its channel, and tells them ([`trays_tell`]).
-//! - [`Net::new`] builds the network before its first cycle, whose number and states the flow of values gives.
+//!   of the channel's list that has entered and wasn't taken. The tokens that have entered are the tokens put, and the
+//!   token that the channel may open with. Each latch contains its channel's value of the cycle. Each machine is in the
+//!   state of its own run. A tray has kept the last values of its channel ([`trays_tell`]).
+//! - [`Net::new`] builds the network before its first cycle. The flow of values contains this cycle and the states.
 //!   [`Net::parts`] takes a network apart, and [`Net::of`] puts the parts together to the same network again.
 //! - While a machine has cycles left, some event may be done ([`goes_on`]).
 //! - An event that may be done can be done, in one way only, and isn't refused ([`goes_once`]). A refusal has one cause
@@ -21,7 +21,7 @@
 //!
 //! The flow of values is part of the type of a network ([`Streams`]). No code reads it.
 //!
-//! `markings` has what steps do without values: markings, counts, and a measure that each step lowers.
+//! `markings` has the steps without values: markings, counts, and a measure that each step lowers.
 #![tactic(auto)]
 
 mod below;

@@ -83,12 +83,25 @@ impl<H: Host, Z: Streams> Net<H, Z> {
         }
     }
 
-    /// The network of these hosts' machines before the first cycle. Allocates its queues, each with room for its
+    /// Builds the network of these hosts' machines before the first cycle. Allocates its queues, each with room for its
     /// capacity and with the token that it opens with.
     ///
     /// # Errors
     ///
     /// Returns `AllocError` if an allocation fails.
+    ///
+    /// # Examples
+    ///
+    /// Machine 0 is a source with one out, machine 1 a tray with one in, and channel 0 connects them with a capacity of
+    /// 2.
+    ///
+    /// ```text
+    /// let mut net: Net<H, Z> = Net::new(alloc, hosts, shape)?;
+    /// net.machines()  // 2
+    /// net.channels()  // 1
+    /// net.cycle(1)    // the first cycle of the flow `Z`
+    /// net.newest(0)   // None, because the channel opens without a token
+    /// ```
     pub fn new(alloc: Global, hosts: Vec<H>, shape: Shape) -> Result<Net<H, Z>, AllocError>
         requires { Opens Z.flow (map H.machines hosts.items) shape.stations.items shape.wires.items shape.end }
         ensures { IfOk result (λ net. net ≡ opening_net (machines_by (map H.machines hosts.items) shape.stations.items) shape.wires.items shape.end) }
@@ -106,7 +119,7 @@ impl<H: Host, Z: Streams> Net<H, Z> {
     pub fn kept(&self)
         ensures { Kept Z.flow self.now }
     {
-        // for the invariant alone
+        // for the invariant only
         let _ = &self.shape;
     }
 
@@ -114,11 +127,11 @@ impl<H: Host, Z: Streams> Net<H, Z> {
     pub fn within_limits(&self)
         ensures { IsWithinLimits (frame_of self.now) }
     {
-        // for the invariant alone
+        // for the invariant only
         let _ = &self.shape;
     }
 
-    /// How the machines are connected.
+    /// The shape: how the machines are connected.
     pub fn shape(&self) -> &Shape
         ensures count { length result.now.stations.items ≡ length self.now.machines }
         ensures listed { AreListed (frame_of self.now) result.now.stations.items }
@@ -191,8 +204,8 @@ impl<H: Host, Z: Streams> Net<H, Z> {
         located::dues(&self.hosts, &self.shape.stations[machine as usize])
     }
 
-    /// The number of ports of a machine's memory, including those that no step serves; 0 if the machine isn't a memory
-    /// that is served.
+    /// The number of ports of a machine's memory, including ports that no step serves. It is 0 if the machine isn't a
+    /// memory that is served.
     pub fn port_count(&self, machine: u32) -> u32
         requires { machine < length self.now.machines }
         ensures { result ≡ (machine_at self.now.machines machine).port_count }
@@ -226,7 +239,7 @@ impl<H: Host, Z: Streams> Net<H, Z> {
         ensures { result ≡ puts self.now channel }
     {
         self.kept();
-        // for the invariant alone
+        // for the invariant only
         let _ = self.end();
         let wire = self.wire(channel);
         let cycle = self.cycle(wire.producer);
@@ -243,7 +256,7 @@ impl<H: Host, Z: Streams> Net<H, Z> {
         ensures { result ≡ takes self.now channel }
     {
         self.kept();
-        // for the invariant alone
+        // for the invariant only
         let _ = self.end();
         let wire = self.wire(channel);
         let cycle = self.cycle(wire.consumer);

@@ -100,6 +100,19 @@ impl<H: Host, Z: Streams> Net<H, Z> {
     /// # Errors
     ///
     /// Returns the first condition of the event that fails. The network then stays as it was.
+    ///
+    /// # Examples
+    ///
+    /// The network is before its first cycle. Channel 0 leads from machine 0, a source, to machine 1, a tray, and its queue
+    /// is empty.
+    ///
+    /// ```text
+    /// net.step(Event::Latch { channel: 0 })   // Err(NoToken { channel: 0 }): the queue is empty
+    /// net.step(Event::Fire { channel: 0 })    // Ok(()): the source's token is in the queue
+    /// net.step(Event::Fire { channel: 0 })    // Err(Fired): the token of this cycle was already given
+    /// net.step(Event::Finish { machine: 0 })  // Ok(()): the source is in its next cycle
+    /// net.step(Event::Latch { channel: 0 })   // Ok(()): the token is in the tray's latch
+    /// ```
     pub fn step(&mut self, event: Event) -> Result<(), StepRefusal>
         ensures { MatchResult result (λ _. Step self.old event self.new) (λ refusal. Refused self.old event refusal × (self.new ≡ self.old)) }
     {

@@ -1,4 +1,4 @@
-//! What a machine of a host waits for: outs that haven't given their tokens, and ins that have none.
+//! The outs and ins that a machine of a host waits for: outs that haven't given their tokens, and ins that have none.
 ghost use Rattle.std.specs.Prelude.{◌≡◌, ◌<◌, All, length, MatchOption};
 ghost use Rattle.gg_node.specs.Machine.{machine_at, first_empty};
 ghost use Rattle.gg_node.specs.Step.{AllFired};

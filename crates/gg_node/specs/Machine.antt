@@ -25,10 +25,10 @@ pub record Port : Type 0 where
 -- that it can do. `ratios` has a ratio for each clock of its piece. `needs` has for each out the ins that its token
 -- depends on. `port_count` is the number of ports of its memory, and `ports` are the ports that are served in a cycle,
 -- in their order; if the piece isn't a memory that is served there are 0 and none. (A reader that gives its word in the
--- same cycle is a port that no step serves.) The other fields change: the cycle that it is in, the state of its piece,
--- the number of ports that were served in this cycle, the latch of each in, which holds the token of this cycle or
--- nothing, the flag of each out, which says whether it has given the token of this cycle, and the values that it has
--- kept.
+-- same cycle is a port that no step serves.) The other fields change: `cycle` is the cycle that it is in, `state` the
+-- state of its piece, and `served` the number of ports that were served in this cycle. `latches` has for each in the
+-- token of this cycle or nothing, `flags` says for each out whether it has given its token, and `kept` are the values
+-- that it has kept.
 pub record Machine : Type 0 where
   pub behaviour : Behaviour
   pub limit : ℕ
@@ -80,12 +80,12 @@ latched_value (Some value) = value
 abbrev pub latched_values : List (Option ℕ) → List ℕ
 latched_values latches = map latched_value latches
 
--- an in if its latch is empty, else `rest`
+-- an in if its latch is empty, otherwise `rest`
 abbrev pub empty_or : Option ℕ → ℕ → Option ℕ → Option ℕ
 empty_or None i rest = Some i
 empty_or (Some value) i rest = rest
 
--- the first of these ins whose latch is empty
+-- the first of these ins with an empty latch
 abbrev pub first_empty : List (Option ℕ) → List ℕ → Option ℕ
 first_empty latches [] = None
 first_empty latches (i ∷ ins) = empty_or (latch_at latches i) i (first_empty latches ins)
@@ -105,7 +105,7 @@ source_machine column cycle flags = record { behaviour = GivesColumn column; lim
 abbrev pub tray_machine : ℕ → ℕ → ℕ → List ℕ → Option ℕ → Machine
 tray_machine rows limit cycle kept latch = record { behaviour = KeepsLast rows; limit = limit; ratios = []; needs = []; port_count = 0; ports = []; cycle = cycle; state = no_state; served = 0; latches = latch ∷ []; flags = []; kept = kept }
 
--- the first cycle whose value a machine still keeps; it keeps those of the last cycles before the one that it is in
+-- the first cycle with a kept value; the kept values are of the cycles just before the current one
 abbrev pub first_kept : Machine → ℕ
 first_kept machine = machine.cycle - length machine.kept
 

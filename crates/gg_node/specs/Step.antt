@@ -7,7 +7,7 @@ use Rattle.gg_flat.specs.Served.{Access, ByReader, ByWriter}
 use Rattle.gg_node.specs.Machine.{Behaviour, RunsPiece, GivesColumn, KeepsLast, Port, Machine, edges_of, latch_at, latched_value}
 use Rattle.gg_node.specs.Token.{accessed}
 
--- ---- how each changes the machine
+-- ---- how each step changes the machine
 
 -- the machine with a token in the latch of an in
 abbrev pub with_latch : Machine → ℕ → ℕ → Machine
@@ -43,7 +43,7 @@ finished machine next =
       kept = kept_after machine.behaviour machine.latches machine.kept;
     }
 
--- ---- when each may be done
+-- ---- when each step may be done
 
 -- all outs have given their tokens
 abbrev pub AllFired : Machine → Type 0

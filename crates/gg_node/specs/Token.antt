@@ -37,7 +37,8 @@ IsNextOf (KeepsLast rows) ports machine next = next ≡ machine.state
 abbrev pub IsNextState : Machine → State → Type 0
 IsNextState machine next = IsNextOf machine.behaviour machine.ports machine next
 
--- what a memory holds after an access whose fields are the tokens in the latches, in a tick with these edges
+-- a memory's bank after the access of a port, if there is one; its fields are the tokens in the latches, and the tick
+-- has these edges
 abbrev pub accessed_bank : List Bool → List (Option ℕ) → Bank → Option Port → Bank
 accessed_bank edges latches bank None = bank
 accessed_bank edges latches bank (Some port) = after_access edges (latched_values latches) bank port.access

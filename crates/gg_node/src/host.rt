@@ -54,7 +54,7 @@ pub trait Host: Drop + Send {
         requires { thread < length (machines self.now) }
         ensures { result ≡ length (machine_at (machines self.now) thread).ports };
 
-    /// The number of ports of the machine's memory, including those that no step serves; 0 if it isn't a memory that is
+    /// The number of ports of the machine's memory, including ports that no step serves; 0 if it isn't a memory that is
     /// served.
     fn port_count(&self, thread: u32) -> u32
         requires { thread < length (machines self.now) }

@@ -26,7 +26,7 @@ pub fn clear_flags(alloc: Global, count: usize) -> Result<Vec<bool>, AllocError>
     vec![in alloc; false; count]
 }
 
-/// The first of these ins whose latch is empty, if there is one.
+/// The first of these ins with an empty latch, if there is one.
 pub fn first_empty(latches: &[Option<u128>], ins: &[u32]) -> Option<u32>
     requires { All (λ i. i < length latches.now) ins.now }
     ensures { result ≡ first_empty latches.now ins.now }

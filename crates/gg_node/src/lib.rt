@@ -7,7 +7,8 @@
 //! as the definitions say, and no other. The crate promises:
 //!
 //! - [`Source`] is a machine that gives the values of a column, one in each cycle, at each of its outs;
-//! - [`Tray`] is a machine that keeps the last values that it gets, one in each cycle, and tells them by their cycles;
+//! - [`Tray`] is a machine that keeps the last values that it gets, one in each cycle, and returns them by their
+//!   cycles;
 //! - [`empty_latches`], [`clear_flags`], [`first_empty`] and [`clean`] are what hosts need for latches and flags.
 //!
 //! Only `Source::forked`, `Tray::new`, `from_cycle` of both, `empty_latches` and `clear_flags` allocate.

@@ -11,8 +11,18 @@ use crate::latches::clear_flags;
 use std::alloc::{AllocError, Global};
 use std::marker::Model;
 
-/// Gives the values of a column, one in each cycle, at each of its outs. It is a host of one thread, whose machine has
-/// at least one out and no ins. A contract sees it as this machine.
+/// Gives the values of a column, one in each cycle, at each of its outs. It is a host of one thread. The thread's
+/// machine has at least one out and no ins, and a contract sees the source as this machine.
+///
+/// # Examples
+///
+/// ```
+/// let mut source = Source::new(column); // the column 5, 7
+/// source.fire(0, 0); // 5, the token of out 0 in cycle 0
+/// source.finish(0);
+/// source.cycle(0); // 1
+/// source.fire(0, 0); // 7
+/// ```
 pub struct Source {
     column: Vec<u128>,
     cycle: u64,
@@ -69,7 +79,7 @@ impl Source {
         Source::from_cycle(alloc, column, outs, 0)
     }
 
-    /// A source of this many outs that is in this cycle. Its column has a value for each cycle, from cycle 0 on.
+    /// A source of this many outs that is in this cycle. The first value of its column is the value of cycle 0.
     ///
     /// # Errors
     ///
@@ -147,7 +157,7 @@ impl Host for Source {
     }
 
     fn latched(&self, thread: u32, place: u32) -> bool {
-        // for the invariant alone
+        // for the invariant only
         let _ = &self.cycle;
         false
     }
@@ -157,31 +167,31 @@ impl Host for Source {
     }
 
     fn missing(&self, thread: u32, place: u32) -> Option<u32> {
-        // for the invariant alone
+        // for the invariant only
         let _ = &self.cycle;
         None
     }
 
     fn due(&self, thread: u32) -> Option<u32> {
-        // for the invariant alone
+        // for the invariant only
         let _ = &self.cycle;
         None
     }
 
     fn served(&self, thread: u32) -> u32 {
-        // for the invariant alone
+        // for the invariant only
         let _ = &self.cycle;
         0
     }
 
     fn dues(&self, thread: u32) -> u32 {
-        // for the invariant alone
+        // for the invariant only
         let _ = &self.cycle;
         0
     }
 
     fn port_count(&self, thread: u32) -> u32 {
-        // for the invariant alone
+        // for the invariant only
         let _ = &self.cycle;
         0
     }
@@ -191,7 +201,7 @@ impl Host for Source {
     }
 
     fn latch(&mut self, thread: u32, place: u32, value: u128) {
-        // for the invariant alone
+        // for the invariant only
         let _ = &self.cycle;
     }
 
@@ -201,7 +211,7 @@ impl Host for Source {
     }
 
     fn serve(&mut self, thread: u32, port: u32) {
-        // for the invariant alone
+        // for the invariant only
         let _ = &self.cycle;
     }
 

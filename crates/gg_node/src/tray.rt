@@ -13,8 +13,22 @@ use std::alloc::{AllocError, Global};
 use std::collections::VecDeque;
 use std::marker::Model;
 
-/// Keeps the last values that it gets, one in each cycle. It is a host of one thread, whose machine has one in and no
-/// outs. A contract sees it as this machine.
+/// Keeps the last values that it gets, one in each cycle. It is a host of one thread. The thread's machine has one in
+/// and no outs, and a contract sees the tray as this machine.
+///
+/// # Examples
+///
+/// ```
+/// let mut tray = Tray::new(alloc, 2)?;
+/// for value in [3, 4, 5] {
+///     tray.latch(0, 0, value);
+///     tray.finish(0);
+/// }
+/// tray.value(0); // None: it keeps two values, of cycles 1 and 2
+/// tray.value(1); // Some(4)
+/// tray.value(2); // Some(5)
+/// tray.value(3); // None: cycle 3 isn't finished
+/// ```
 pub struct Tray {
     // The oldest first.
     kept: VecDeque<u128>,
@@ -135,43 +149,43 @@ impl Host for Tray {
     }
 
     fn fired(&self, thread: u32, place: u32) -> bool {
-        // for the invariant alone
+        // for the invariant only
         let _ = &self.cycle;
         false
     }
 
     fn missing(&self, thread: u32, place: u32) -> Option<u32> {
-        // for the invariant alone
+        // for the invariant only
         let _ = &self.cycle;
         None
     }
 
     fn due(&self, thread: u32) -> Option<u32> {
-        // for the invariant alone
+        // for the invariant only
         let _ = &self.cycle;
         None
     }
 
     fn served(&self, thread: u32) -> u32 {
-        // for the invariant alone
+        // for the invariant only
         let _ = &self.cycle;
         0
     }
 
     fn dues(&self, thread: u32) -> u32 {
-        // for the invariant alone
+        // for the invariant only
         let _ = &self.cycle;
         0
     }
 
     fn port_count(&self, thread: u32) -> u32 {
-        // for the invariant alone
+        // for the invariant only
         let _ = &self.cycle;
         0
     }
 
     fn token(&mut self, thread: u32, place: u32) -> u128 {
-        // for the invariant alone
+        // for the invariant only
         let _ = &self.cycle;
         0
     }
@@ -181,13 +195,13 @@ impl Host for Tray {
     }
 
     fn fire(&mut self, thread: u32, place: u32) -> u128 {
-        // for the invariant alone
+        // for the invariant only
         let _ = &self.cycle;
         0
     }
 
     fn serve(&mut self, thread: u32, port: u32) {
-        // for the invariant alone
+        // for the invariant only
         let _ = &self.cycle;
     }
 

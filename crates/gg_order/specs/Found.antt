@@ -1,4 +1,4 @@
--- An order of evaluation, found from the circuit alone.
+-- An order of evaluation, as a function of the circuit.
 -- Source: A. B. Kahn, Topological sorting of large networks, CACM 1962: whatever needs only what is placed is placed next.
 use Rattle.std.specs.Prelude.{ℕ, zero, suc, List, [], ◌∷◌, ◌++◌, Bool, not, ◌&&◌, ◌==◌, filter, flat_map, length}
 use Rattle.std.specs.List.{list_all, list_any, range_with_len}
@@ -38,11 +38,11 @@ is_placed placed s = list_any (λ t. t == s) placed
 abbrev pub is_ready : FlatCircuit → List ℕ → ℕ → Bool
 is_ready circuit placed s = not (is_placed placed s) && list_all (is_placed placed) (reads_of (driver_at circuit s))
 
--- the placed signals after so many rounds, in each of which all that are ready are placed
+-- the placed signals after this many rounds; each round places all signals that are ready
 abbrev pub placed_after : FlatCircuit → (rounds : ℕ) → List ℕ
 placed_after circuit zero = []
 placed_after circuit (suc rounds) = placed_after circuit rounds ++ filter (is_ready circuit (placed_after circuit rounds)) (range_with_len 0 (length circuit.signals))
 
--- after as many rounds as there are signals
+-- the order that is found: the placed signals after as many rounds as there are signals
 abbrev pub found_order : FlatCircuit → List ℕ
 found_order circuit = placed_after circuit (length circuit.signals)

@@ -15,7 +15,7 @@ use Rattle.gg_flat_tree.specs.Tree.{path_at}
 abbrev pub IsBefore : List ℕ → List ℕ → Type 0
 IsBefore a b = slice_cmp nat_cmp a b ≡ Less
 
--- A loop that begins with the signal whose path is the least: no path of a signal comes before that of the first.
+-- A loop that begins with the signal that has the least path: no signal's path comes before the first's.
 pub record IsToldLoop (circuit : FlatCircuit) (signals : List ℕ) : Type 0 where
   pub loop : IsLoop circuit signals
   pub least : (i : ℕ) → i < length signals → ¬ IsBefore (path_at circuit.paths (value_at signals i)) (path_at circuit.paths (value_at signals 0))

@@ -8,8 +8,8 @@ use gg_flat::Piece;
 use gg_flat_tree::Tree;
 use std::marker::Model;
 
-/// A flat circuit that is well formed, with a tree of instances and an order of evaluation. A contract sees these three.
-/// Whether the circuit keeps to the tree is for the maker to say.
+/// A flat circuit that is well formed, with a tree of instances and an order of evaluation. A contract sees these
+/// three. It doesn't say whether the circuit keeps to the tree: the code that makes it does.
 pub struct Design {
     piece: Piece,
     tree: Tree,
@@ -37,7 +37,7 @@ impl Model for Design {
 
 impl Design {
     /// The design of a circuit, a tree of instances and an order of the circuit. The circuit is well formed, as
-    /// gg_refsim `is_well_formed` tells. The order has each signal once, after all signals that it reads.
+    /// gg_refsim's `is_well_formed` checks. The order has each signal once, after all signals that it reads.
     pub fn new(piece: Piece, tree: Tree, order: Order) -> Design
         requires formed { IsWellFormed piece }
         requires ordered { IsOrder piece order }

@@ -6,8 +6,8 @@ use std::fmt;
 /// Why `order` gave no order.
 #[derive(Debug, Drop)]
 pub enum OrderFault {
-    /// A combinational loop: distinct signals, by their numbers. Each reads the next, and the last reads the first.
-    /// It begins with the signal whose path is the least by bytes.
+    /// A combinational loop: distinct signals, by their numbers. Each reads the next, and the last reads the first. It
+    /// begins with the signal that has the least path by bytes.
     Loop(Ids),
     /// An allocation failed.
     NoMemory,

@@ -4,9 +4,9 @@
 //! of distinct signals: each reads the next, and the last reads the first (gg_flat's `IsLoop`). For each well-formed
 //! flat circuit the crate promises:
 //!
-//! - `order` returns an order exactly if the circuit has no combinational loop. Else it returns such a loop, which
-//!   begins with the signal whose path is the least by bytes (`IsToldLoop`). It may return `NoMemory` instead;
-//! - a circuit without a combinational loop has an order, which is found from the circuit alone (`orders_are_found`);
+//! - `order` returns an order exactly if the circuit has no combinational loop. Otherwise it returns such a loop,
+//!   beginning with the signal that has the least path by bytes (`IsToldLoop`). It may return `NoMemory` instead;
+//! - a circuit without a combinational loop has an order, and `found_order` is one (`orders_are_found`);
 //! - a `Design` is a well-formed flat circuit, with a tree of instances and an order of it.
 //!
 //! The time that `order` takes is linear in the numbers of signals and nodes.

@@ -1,4 +1,4 @@
-//! A loop as it is reported: it begins with the signal whose path is the least.
+//! A loop as it is reported: it begins with the signal that has the least path.
 ghost use Rattle.std.specs.Prelude.{◌≡◌, ℕ, ◌<◌, length, MatchBool};
 ghost use Rattle.gg_flat.specs.Circuit.{FlatCircuit};
 ghost use Rattle.gg_flat.specs.Line.{value_at};
@@ -11,7 +11,7 @@ ghost use Rattle.gg_order.specs.Loop.{IsBefore, IsToldLoop};
 use gg_bits::{Ids, Name};
 use gg_flat::Piece;
 
-// The loop of a ring of signals, turned so that it begins with the signal whose path is the least.
+// The loop of a ring of signals, turned so that it begins with the signal that has the least path.
 pub(crate) fn told(piece: &Piece, ring: Vec<u32>) -> Ids
     requires formed { IsWellFormed piece.now }
     requires ring { IsRing (Reads piece.now) (length piece.now.signals) ring.items }
@@ -23,7 +23,7 @@ pub(crate) fn told(piece: &Piece, ring: Vec<u32>) -> Ids
     Ids::from(ring)
 }
 
-// The place of the signal whose path is the least.
+// The place of the signal that has the least path.
 fn least_place(piece: &Piece, signals: &[u32]) -> usize
     requires formed { IsWellFormed piece.now }
     requires known { (i : ℕ) → i < length signals.now → value_at signals.now i < length piece.now.signals }

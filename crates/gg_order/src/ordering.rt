@@ -23,7 +23,7 @@ pub type Order = Ids;
 /// # Errors
 ///
 /// Returns `Loop` with a combinational loop of the circuit, exactly if there is one. The loop begins with the signal
-/// whose path is the least by bytes. If there are several loops, it is any one of them. Returns `NoMemory` if an
+/// that has the least path by bytes. If there are several loops, it is any one of them. Returns `NoMemory` if an
 /// allocation fails.
 pub fn order(alloc: Global, piece: &Piece) -> Result<Order, OrderFault>
     requires { IsWellFormed piece.now }

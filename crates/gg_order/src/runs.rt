@@ -1,7 +1,8 @@
-//! What flat circuits do, by the definitions of gg_flat: their states, their settled cycles and their runs.
+//! The states, settled cycles and runs of flat circuits, by the definitions of gg_flat.
 //!
-//! - What `State::settle` makes along an order is settled, and nothing else is. `driver_value` gives one driver's value.
-//! - `State::advance` makes the next state, in a tick in which some clocks have an edge (`ticks`).
+//! - The values that `State::settle` makes along an order are settled, and no others are. `driver_value` returns one
+//!   driver's value.
+//! - `State::advance` makes the next state, in a tick where some clocks have an edge (`ticks`).
 //! - Along an order there is exactly one run from each start, the opening or another (`runs_along`, `run_once`), and a
 //!   run can be split in two and joined again (`runs_split`, `runs_on`).
 //! - A memory that serves its accesses one after another holds the same after the cycle (`one_served`, `all_served`).
@@ -10,8 +11,8 @@
 //!   (`values_agree`). A signal's value in a settled cycle depends only on the in-signals that it reaches
 //!   (`depends_on_reached`).
 //!
-//! `State::settle` and `State::advance` do not allocate. Their scratch space comes from `scratch_of`, and `signal_zeros` gives
-//! places for the values of the signals.
+//! `State::settle` and `State::advance` do not allocate. Their scratch space comes from `scratch_of`, and
+//! `signal_zeros` returns places for the values of the signals.
 
 mod bank;
 mod clock;

@@ -1,6 +1,6 @@
--- Two instances of one module, signal by signal. What they hold is the same, but for the front of its paths.
--- Source: FIRRTL Specification, "Instances": each instance has all that its module declares; "Clock" types: which clock a Clock
--- input follows is said where the instance stands.
+-- Two instances of one module, signal by signal. What they hold is the same, except for the front of its paths.
+-- Source: FIRRTL Specification, "Instances": each instance has all that its module declares; "Clock" types: a Clock input is connected
+-- where the instance is declared.
 use Rattle.std.specs.Prelude.{◌≡◌, ◌≢◌, ℕ, zero, suc, ◌<◌, Option, Some, None, length, map, slice_index_or, option_and_then, option_map, Contains}
 use Rattle.gg_flat.specs.declared.memory.Memory.{Memory}
 use Rattle.gg_flat.specs.declared.piece.Driver.TheVariants.{Held}
@@ -12,26 +12,26 @@ use Rattle.gg_flat_tree.specs.Tree.{InstanceTree, instance_at, memory_at, path_a
 use Rattle.gg_part.specs.Moved.{IsMoved, moved_port, moved_stop, shifted, unclocked_memory, unclocked_register}
 use Rattle.gg_flat.specs.Renaming.{numbers_by, renamed_driver, renamed_memory, renamed_register, signals_by}
 
--- the place of the instance so many levels above that at place k
+-- the place of the instance this many levels above the instance at place k
 abbrev pub above : InstanceTree → ℕ → ℕ → Option ℕ
 above tree zero k = Some k
 above tree (suc levels) k = option_and_then (above tree levels) (instance_at tree k).parent
 
--- The instance at place k is that at place i, or one below it.
+-- The instance at place k is the instance at place i, or one below it.
 pub record LiesIn (tree : InstanceTree) (i k : ℕ) : Type 0 where
   pub levels : ℕ
   pub is : above tree levels k ≡ Some i
 
--- how many signals, registers and memories stand before an instance's own
+-- how many signals, registers and memories come before an instance's own
 pub record Start : Type 0 where
   pub signals : ℕ
   pub registers : ℕ
   pub memories : ℕ
 
--- The instance at place j has what the instance at place i has, with numbers as far behind its own start: as many signals,
--- memories and Clock inputs, the same paths behind its own, the same types, the same drivers but for those of its inputs, the same
--- registers and memories but for their clocks, the same instances in each other, and the same stops. What follows a Clock input of an instance follows the same one
--- there. So the clocks differ only as those differ that the two instances are given.
+-- The instance at place j has what the instance at place i has, with numbers at the same distances from its own start: as many signals,
+-- memories and Clock inputs, the same paths after its own, the same types, the same drivers except of its inputs, the same registers and
+-- memories except for their clocks, the same instances in each other, and the same stops. What follows a Clock input of an instance follows
+-- the same one there. The clocks therefore differ only in what the two instances are given.
 pub record IsCopy (circuit : FlatCircuit) (tree : InstanceTree) (i j : ℕ) (one other : Start) : Type 0 where
   pub size : (instance_at tree j).end ≡ shifted one.signals other.signals (instance_at tree i).end
   pub path : (s : ℕ) → IsHeldBy (instance_at tree i) s → IsMoved (path_at tree.paths i) (path_at tree.paths j) (path_at circuit.paths s) (path_at circuit.paths (shifted one.signals other.signals s))

@@ -1,6 +1,6 @@
 -- Parts of a flat circuit with other numbers.
--- Source: FIRRTL Specification, "Instances": each instance of a module has all that the module declares, so what one has
--- another has too, under other names.
+-- Source: FIRRTL Specification, "Instances": each instance of a module has all that the module declares, so all that one has another has
+-- too, under other names.
 use Rattle.std.specs.Prelude.{◌≡◌, ℕ, ◌+◌, ◌-◌, List, None, map}
 use Rattle.gg_flat.specs.declared.memory.Memory.{Memory}
 use Rattle.gg_flat.specs.declared.memory.Reader.{Reader}
@@ -13,7 +13,7 @@ use Rattle.gg_flat_tree.specs.Tree.{joined}
 
 -- ---- paths
 
--- Two paths are the same behind two paths.
+-- Path a is path `from` with a rest, and path b is path `to` with the same rest.
 pub record IsMoved (from to a b : List ℕ) : Type 0 where
   pub rest : List ℕ
   pub one : a ≡ joined from rest
@@ -21,7 +21,7 @@ pub record IsMoved (from to a b : List ℕ) : Type 0 where
 
 -- ---- numbers that move
 
--- the number that stands as far behind the second as s behind the first
+-- the number that is as far from `to` as s is from `from`
 abbrev pub shifted : ℕ → ℕ → ℕ → ℕ
 shifted from to s = s - from + to
 
@@ -29,9 +29,9 @@ shifted from to s = s - from + to
 abbrev pub moved_stop : (ℕ → ℕ) → (ℕ → ℕ) → StopInstance → StopInstance
 moved_stop instances to stop = record { instance = instances stop.instance; signal = to stop.signal; clock = stop.clock }
 
--- ---- but for clocks
+-- ---- without clocks
 
--- a register, a reader, a writer and a memory without their clocks
+-- a register without its clock
 abbrev pub unclocked_register : Register → Register
 unclocked_register register = record register { clock = None }
 
@@ -43,7 +43,7 @@ unclocked_reader reader = record reader { clock = None }
 abbrev pub unclocked_writer : Writer → Writer
 unclocked_writer writer = record writer { clock = None }
 
--- a memory whose ports have no clock
+-- a memory without the clocks of its ports
 abbrev pub unclocked_memory : Memory → Memory
 unclocked_memory memory =
     record memory {

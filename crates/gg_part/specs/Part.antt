@@ -16,15 +16,14 @@ use Rattle.gg_flat_tree.specs.Clocked.{clock_at}
 use Rattle.gg_flat_tree.specs.Tree.{path_at}
 use Rattle.gg_flat.specs.WellFormed.{IsClock, IsClockedMemory}
 
--- ---- the part's things in the numbers of the whole; `globals` has the number in the whole of each signal of the
+-- ---- the part's things in the numbers of the whole
 
--- part, and `clocks` the clock of the whole that each clock of the part follows, if any
-
--- the numbers in the whole of what the part has
+-- the numbers in the whole of what the part has: `globals` has the number of each signal of the part, and `clocks` the clock of the whole
+-- that each clock of the part follows, if any
 abbrev pub in_whole : (globals : List ℕ) (clocks : List (Option ℕ)) → Renaming
 in_whole globals clocks = record { signals = value_at globals; registers = λ r. r; memories = λ m. m; clocks = clock_at clocks }
 
--- ---- what the part names exists
+-- ---- everything that the part names exists
 
 -- a line names only signals below n
 abbrev pub NamesBelow : ℕ → List Node → Type 0
@@ -40,9 +39,9 @@ MemoryBelow n memory = MemoryNamesOnly (λ s. s < n) memory
 
 -- ---- the part
 
--- The last argument, the driver of signal s of the part, stands for the driver in the whole circuit. It is that of an
--- in-signal, regardless of what drives the signal in the whole circuit, or the same driver in the part's numbers.
--- `held` and `memories` have the numbers in the whole circuit of the part's registers and memories.
+-- The last argument is the driver of signal s in the part, and `driver` is its driver in the whole circuit. The part has the driver of an
+-- in-signal, regardless of `driver`, or the same driver in the part's numbers. `held` and `memories` have the numbers in the whole circuit
+-- of the part's registers and memories.
 abbrev pub IsFrom : List ℕ → List ℕ → List ℕ → List ℕ → ℕ → Driver → Driver → Type 0
 IsFrom ins globals held memories s driver (Input place) = (place < length ins) × (value_at ins place ≡ s)
 IsFrom ins globals held memories s driver (Held register) = (register < length held) × (driver ≡ Held (value_at held register))
@@ -58,8 +57,8 @@ pub record IsRegisterFrom (whole part : FlatCircuit) (globals held : List ℕ) (
   pub below : (any : Register) → RegisterBelow (length globals) (slice_index_or part.registers r any)
   pub clocked : (any : Register) → IsClock (length clocks) (slice_index_or part.registers r any).clock
 
--- Memory m of the part is the memory of the whole circuit with that number in `memories`. It has all its ports, each of which follows a
--- clock of the part, if any, and the data of its readers isn't an in-signal.
+-- Memory m of the part is the memory of the whole circuit with that number in `memories`. It has all its ports. Each follows a clock of the
+-- part, if any, and the data of its readers isn't an in-signal.
 pub record IsMemoryFrom (whole part : FlatCircuit) (globals memories : List ℕ) (clocks : List (Option ℕ)) (m : ℕ) : Type 0 where
   pub within : value_at memories m < length whole.memories
   pub is : (any other : Memory) → slice_index_or whole.memories (value_at memories m) other ≡ renamed_memory (in_whole globals clocks) (slice_index_or part.memories m any)
@@ -67,9 +66,9 @@ pub record IsMemoryFrom (whole part : FlatCircuit) (globals memories : List ℕ)
   pub clocked : (any : Memory) → IsClockedMemory (length clocks) (slice_index_or part.memories m any)
   pub given : (r place : ℕ) → r < length (readers_at part m) → driver_at part (reader_at (readers_at part m) r).word ≢ Input place
 
--- A part: some signals of the whole circuit, each once, with their paths and types. Each is an in-signal, or has its
--- driver from the whole circuit. The registers and the memories that these drivers name are those of the whole
--- circuit. The part has a clock for each item of `clocks`, by which its registers and ports follow those of the whole circuit.
+-- A part: some signals of the whole circuit, each once, with their paths and types. Each is an in-signal, or has its driver from the whole
+-- circuit. The registers and the memories that these drivers name are the whole circuit's. The part has a clock for each item of `clocks`.
+-- Through these its registers and ports follow the clocks of the whole circuit.
 pub record IsPart (whole part : FlatCircuit) (globals held memories : List ℕ) (clocks : List (Option ℕ)) : Type 0 where
   pub count : length part.signals ≡ length globals
   pub within : (s : ℕ) → s < length globals → value_at globals s < length whole.signals

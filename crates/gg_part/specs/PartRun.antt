@@ -1,5 +1,5 @@
--- What a part has of the rows, states and runs of the whole circuit.
--- Source: MEMOCODE 2009: the values of a part are those of the same signals in the whole.
+-- The rows, states and runs of a part, taken from the whole circuit's.
+-- Source: MEMOCODE 2009: the values of a part are the values of the same signals in the whole.
 use Rattle.std.specs.Prelude.{ℕ, List, [], ◌∷◌, Option, Some, None, map, slice_index_or}
 use Rattle.gg_flat.specs.Clock.{Ratio}
 use Rattle.gg_flat.specs.Line.{value_at}

@@ -107,7 +107,7 @@ fn add_signals(
     ensures only { OnOk result (piece.new ≡ record no_circuit { paths = piece.new.paths; signals = piece.new.signals }) }
     ensures signals { OnOk result (AreSignals whole.now frame.now.globals frame.now.ins frame.now.held frame.now.memories (length frame.now.globals) piece.new) }
 {
-    // for the invariant alone: few enough signals for a piece
+    // for the invariant only: few enough signals for a piece
     let _ = whole.signal_count();
     for signal in frame.globals.as_slice() {
         add_signal(alloc, whole, frame, *signal, piece)?;
@@ -211,7 +211,7 @@ fn add_outs(globals: &Numbers, outs: &[u32], piece: &mut Piece) -> Result<(), Al
 
 // ---- the part
 
-// Adds everything that the part has.
+// Adds all signals, registers, memories and ports of the part, and its number of clocks.
 fn add_all(
     alloc: Global,
     whole: &Piece,
@@ -241,11 +241,11 @@ fn add_all(
     Ok(())
 }
 
-/// The part of a circuit with these signals and memories. It gets the values of `ins` from outside, and gives those
-/// of `outs`. It has a clock for each item of `clocks`, which is the clock of the circuit that it follows, if any; `clocking` says which
-/// of them its registers and ports follow. All numbers are those of the whole circuit. The part's signals are in the order of `globals`, its
-/// in-signals in that of `ins`, its out-signals in that of `outs`, and its memories in that of `memories`. Its
-/// registers are exactly those that its signals hold.
+/// The part of a circuit with these signals and memories. It gets the values of `ins` from outside, and gives the
+/// values of `outs`. It has a clock for each item of `clocks`: the clock of the circuit that it follows, if any.
+/// `clocking` has the part's clock that each register and port follows. All numbers are the whole circuit's. The part's
+/// signals are in the order of `globals`, its in-signals in the order of `ins`, its out-signals in the order of `outs`,
+/// and its memories in the order of `memories`. Its registers are exactly the registers that its signals hold.
 ///
 /// # Errors
 ///

@@ -12,8 +12,8 @@ use gg_flat::{Driver, Lists, Piece};
 use gg_flat_tree::ClockNumbers;
 use std::alloc::{AllocError, Global};
 
-// The numbers of what a part has, all of them those of the whole circuit: its signals, those of them that come from
-// outside, its registers, its memories, and the clocks that its own follow.
+// The numbers in the whole circuit of a part's signals, of its in-signals, of its registers and of its memories, and
+// the clocks that the part's clocks follow.
 pub(crate) struct Frame {
     pub(crate) globals: Numbers,
     pub(crate) ins: Numbers,
@@ -123,7 +123,7 @@ fn held_by(
     Ok(held)
 }
 
-// The frame of the part with these signals and memories, whose clocks follow these.
+// The frame of the part with these signals and memories, and with clocks that follow these.
 //
 // # Errors
 //

@@ -8,9 +8,9 @@ ghost use Rattle.gg_part.specs.Part.{IsPart};
 ghost use Rattle.gg_flat.specs.InOrder.{IsInOrder};
 ghost use Rattle.gg_part.specs.inside.RunsOfParts.{PartsRunFromStarts, PartsRunFromOpening, PartsTakeColumns, PartsKeepOrder};
 
-/// A part of a run is a run of the part, whose clocks have the ratios of those that they follow. From each start, this holds if the
-/// inputs are the values of the part's in-signals in the run. From the opening, it holds for the columns of the part's in-signals, and
-/// the part can take these as its inputs.
+/// A part of a run is a run of the part. Each clock of the part has the ratio of the clock that it follows. From each
+/// start, this holds if the inputs are the values of the part's in-signals in the run. From the opening, it holds for
+/// the columns of the part's in-signals, and the part can take these as its inputs.
 pub fn part_runs()
     ensures from { PartsRunFromStarts }
     ensures opening { PartsRunFromOpening }

@@ -52,7 +52,7 @@ fn fill(places: &mut [u32], items: &[u32])
     }
 }
 
-// The table of the places of these numbers, all of which are below `count`.
+// The table of the places of these numbers. All of them are below `count`.
 fn table(alloc: Global, count: usize, items: &[u32]) -> Result<Vec<u32>, AllocError>
     requires below { All (λ s. s < count) items.now }
     requires few { length items.now ≤ 2 ^ 32 }
@@ -64,7 +64,7 @@ fn table(alloc: Global, count: usize, items: &[u32]) -> Result<Vec<u32>, AllocEr
 }
 
 impl Numbers {
-    // These numbers, all of which are below `count`.
+    // These numbers, with the table of their places. All of them are below `count`.
     //
     // # Errors
     //

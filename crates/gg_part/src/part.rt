@@ -61,7 +61,7 @@ impl Part {
 pub struct Clocking {
     /// For each register of the whole circuit the part's clock that it follows, if any.
     pub registers: ClockNumbers,
-    /// For each memory of the whole circuit those that its ports follow: its readers, then its writers.
+    /// For each memory of the whole circuit the part's clocks that its ports follow: its readers, then its writers.
     pub ports: Items<ClockNumbers>,
 }
 

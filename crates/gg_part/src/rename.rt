@@ -1,4 +1,4 @@
-//! The memories of a part: those of the whole circuit, in the part's numbers.
+//! The memories of a part: the whole circuit's, in the part's numbers.
 ghost use Rattle.std.specs.Prelude.{◌≡◌, ◌+◌, ◌^◌, ◌<◌, None, length, slice_index_or, IfOk};
 ghost use Rattle.gg_flat.specs.Line.{value_at};
 ghost use Rattle.gg_part.specs.inside.Local.{own_readers, own_writers, own_memory};
@@ -16,7 +16,7 @@ fn clock_in(clocks: &[Option<u32>], place: usize) -> Option<u32>
     }
 }
 
-// The same numbers, with the clock at a place.
+// `by` with the clock at a place.
 pub(crate) fn at_port<'a>(by: Lists<'a>, ports: &[Option<u32>], place: usize) -> Lists<'a>
     ensures signals { result.signals.now ≡ by.entry.signals.now }
     ensures clock { result.clock ≡ slice_index_or ports.now place None }
@@ -46,7 +46,7 @@ fn own_readers(
     Ok(own)
 }
 
-// Writers under these numbers, each with the clock at its place behind the first ones.
+// Writers under these numbers. The writer at place i has the clock at place `first` + i.
 fn own_writers(
     alloc: Global,
     by: &Lists,
@@ -65,7 +65,7 @@ fn own_writers(
     Ok(own)
 }
 
-// A memory under these numbers, whose readers and then its writers have these clocks.
+// A memory under these numbers. Its readers, and then its writers, have these clocks.
 //
 // # Errors
 //

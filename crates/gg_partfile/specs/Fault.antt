@@ -20,7 +20,7 @@ abbrev pub fault_text : PartFault → List ℕ
 fault_text (WrongKey key) = codes "P1 " ++ key
 fault_text NoMemory = codes "out of memory"
 
--- the first key whose value has a wrong shape, else the least unknown key
+-- the first key with a value of a wrong shape, otherwise the least unknown key
 abbrev pub first_wrong : Data → Option (List ℕ)
 first_wrong d = or_else (misshapen keys d) (unknown d)
 

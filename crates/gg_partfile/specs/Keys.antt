@@ -10,7 +10,7 @@ pub record Key : Type 0 where
   pub name : List ℕ
   pub fits : Data → Bool
 
--- the keys, in the order in which their values are judged
+-- the keys, in the order of their checks
 abbrev pub keys : List Key
 keys =
     record { name = codes "units"; fits = λ d. is_some (texts d) }
@@ -27,7 +27,7 @@ keys =
 abbrev pub key_names : List (List ℕ)
 key_names = map (λ (key : Key). key.name) keys
 
--- whether a name is that of a key
+-- whether a name is a key's
 abbrev pub is_known : List ℕ → Bool
 is_known name = is_one_of key_names name
 
@@ -40,7 +40,7 @@ abbrev pub has_shape : (Data → Bool) → Option Data → Bool
 has_shape fits None = true
 has_shape fits (Some d) = fits d
 
--- the first of these keys whose value has another shape
+-- the first of these keys with a value of another shape
 abbrev pub misshapen : List Key → Data → Option (List ℕ)
 misshapen [] d = None
 misshapen (key ∷ rest) d = if has_shape key.fits (get key.name d) then misshapen rest d else Some key.name
@@ -49,7 +49,7 @@ misshapen (key ∷ rest) d = if has_shape key.fits (get key.name d) then misshap
 abbrev pub held : List ℕ → Data → Option Data
 held name d = if is_known name then get name d else None
 
--- what f reads of the value under a key; something else if the key is absent or unknown
+-- what f reads of the value under a key; `default` if the key is absent or unknown
 abbrev pub or_default : {A : Type 0} → A → (Data → Option A) → Option Data → Option A
 or_default default f None = Some default
 or_default default f (Some d) = f d

@@ -9,7 +9,7 @@ use Rattle.gg_partfile.specs.Request.{no_request}
 use Rattle.gg_partfile.specs.Shapes.{texts, groups, numbers, ratios, bridges}
 use Rattle.gg_partfile.specs.declared.request.Request.{Request}
 
--- the value is an object of the right shapes, which asks for this
+-- the value is an object of the right shapes, and holds this request
 pub record Asks (d : Data) (request : Request) : Type 0 where
   pub object : is_some (as_object d) ≡ true
   pub units : under no_request.units texts (codes "units") d ≡ Some request.units
@@ -22,7 +22,7 @@ pub record Asks (d : Data) (request : Request) : Type 0 where
   pub bridges : under no_request.bridges bridges (codes "bridges") d ≡ Some request.bridges
   pub known : unknown d ≡ None
 
--- the bytes are JSON that asks for this
+-- the bytes are JSON that holds this request
 pub record IsPartition (bytes : List ℕ) (request : Request) : Type 0 where
   pub value : Data
   pub utf8 : IsUtf8 bytes

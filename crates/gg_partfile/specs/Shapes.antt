@@ -81,11 +81,11 @@ other_key names d = option_and_then (other_member names) (as_object d)
 abbrev pub required : {A : Type 0} → (Data → Option A) → List ℕ → Data → Option A
 required f key d = option_and_then f (get key d)
 
--- the keys of an entry of `bridges`, all of which have to be there
+-- the keys of an entry of `bridges`; all have to be there
 abbrev pub bridge_keys : List (List ℕ)
 bridge_keys = codes "name" ∷ codes "sees" ∷ codes "drives" ∷ []
 
--- an object with exactly a name, a list of the ports that are seen and a list of those that are driven
+-- an object with exactly a name, a list of ports that the bridge sees, and a list of ports that it drives
 abbrev pub bridge : Data → Option BridgeEntry
 bridge d =
     if is_some (other_key bridge_keys d) then None

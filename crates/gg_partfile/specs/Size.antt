@@ -1,6 +1,5 @@
--- How much a partition file asks for.
--- Source: RFC 8259. Each text and each number of a JSON text takes bytes of its own, so there are at most as many of
--- them as bytes.
+-- How many entries a request has.
+-- Source: RFC 8259. Each text and each number of a JSON text takes bytes of its own, so there are at most as many of them as bytes.
 use Rattle.std.specs.Prelude.{ℕ, ◌≤◌, List, length, flat_map}
 use Rattle.gg_partfile.specs.declared.request.BridgeEntry.{BridgeEntry}
 use Rattle.gg_partfile.specs.declared.request.Request.{Request}
@@ -9,7 +8,7 @@ use Rattle.gg_partfile.specs.declared.request.Request.{Request}
 abbrev pub entries : List (List (List ℕ)) → List (List ℕ)
 entries share = flat_map (λ group. group) share
 
--- the ports that all entries of `bridges` see, and those that they drive, in order
+-- the ports that all entries of `bridges` see, in order
 abbrev pub all_seen : List BridgeEntry → List (List ℕ)
 all_seen bridges = flat_map (λ entry. entry.sees) bridges
 

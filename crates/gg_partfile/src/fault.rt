@@ -7,12 +7,12 @@ use std::alloc::AllocError;
 use std::error::Error;
 use std::fmt;
 
-/// Why a partition file gave no request. The text of a wrong key begins with the code that is given here.
+/// Why a partition file has no request. The text of a wrong key begins with the code that is given here.
 #[derive(Debug, Drop)]
 pub enum PartFault {
-    /// P1: the value of a key has a wrong shape, or a key is unknown. It is the first of the keys that a file may have, in
-    /// their order, whose value has a wrong shape, else the least unknown key. It is `-` if the file isn't a JSON text, or
-    /// isn't an object.
+    /// P1: the value of a key has a wrong shape, or a key is unknown. It is the first key with a value of a wrong
+    /// shape, in the order of the keys that a file may have, otherwise the least unknown key. It is `-` if the file
+    /// isn't a JSON text, or isn't an object.
     WrongKey(Name),
     /// An allocation failed.
     NoMemory,

@@ -6,7 +6,7 @@ ghost use Rattle.gg_partfile.specs.Shapes.{is_one_of, other_member};
 
 use serde_json::{Map, Value};
 
-// The keys that a partition file may have, in the order in which their values are judged.
+// The keys that a partition file may have, in the order of their checks.
 pub(crate) static KEYS: [&str; 8] = [
     "units", "share", "memories", "capacity", "direct", "pipe", "clocks", "bridges",
 ];

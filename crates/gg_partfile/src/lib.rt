@@ -1,11 +1,11 @@
 //! Partition files: which instances become units, which of them share a host, which memories are hosts of their own,
 //! the capacities of channels, whether channels are direct, and which channels hold a token from the start.
 //!
-//! A partition file is a JSON text (RFC 8259): an object with optional keys. The keys that it may have stand in one list, in
-//! the order in which their values are judged (`keys` of specs/Keys, and `KEYS` of src/keys.rt). From this list follow the
-//! first key whose value has a wrong shape, and which keys are unknown. The crate promises that `read_partition` returns the
-//! request that the bytes hold (`IsPartition`), or the key that is wrong (`IsRefused`), or `NoMemory`. A request has at most
-//! as many entries of each kind as the file has bytes (`HasAtMost`).
+//! A partition file is a JSON text (RFC 8259): an object with optional keys. The keys that it may have are in one list,
+//! in the order of their checks (`keys` of specs/Keys, and `KEYS` of src/keys.rt). This list determines the first key
+//! with a value of a wrong shape, and which keys are unknown. The crate promises that `read_partition` returns the
+//! request that the bytes hold (`IsPartition`), or the key that is wrong (`IsRefused`), or `NoMemory`. A request has at
+//! most as many entries of each kind as the file has bytes (`HasAtMost`).
 #![tactic(auto)]
 
 mod fault;

@@ -74,7 +74,7 @@ fn none<T: Drop>(alloc: Global) -> Items<T>
     Items::from(Vec::new(alloc))
 }
 
-// Fills an empty request with what a value asks for.
+// Fills an empty request with what a value holds.
 fn fill(alloc: Global, value: &Value, request: &mut Request) -> Result<(), PartFault>
     requires { request.old ≡ no_request }
     ensures asks { IfOk result (λ _. Asks (view value.now) request.new) }

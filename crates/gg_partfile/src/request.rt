@@ -1,4 +1,4 @@
-//! `Request`: what a partition file asks for.
+//! `Request`: the contents of a partition file.
 use gg_bits::{Items, Name, Names};
 
 /// Lists of names. A contract sees them as the list of the lists of their bytes.
@@ -7,7 +7,7 @@ pub type Groups = Items<Names>;
 /// Names, each with a number. A contract sees them as the list of pairs.
 pub type Capacities = Items<(Name, u64)>;
 
-/// Names of clocks, each with a ratio: the numbers of its edges and of the base ticks in which they come.
+/// Names of clocks, each with a ratio: the number of its edges, and the number of base ticks for these.
 pub type Clocks = Items<(Name, (u64, u64))>;
 
 /// A bridge that is attached to the circuit's top.
@@ -32,7 +32,7 @@ impl Drop for BridgeEntry {
 /// The bridges that are attached, in the order of the file.
 pub type Bridges = Items<BridgeEntry>;
 
-/// What a partition asks for.
+/// The contents of a partition file.
 pub struct Request {
     /// The paths of the instances that become units.
     pub units: Names,

@@ -13,15 +13,15 @@ HasNeeds circuit inputs out row =
     (place : ℕ) → place < length circuit.ins → Reaches circuit out (value_at circuit.ins place)
     → value_at row (value_at circuit.ins place) ≡ value_at inputs place
 
--- some row is settled in this state, with some inputs, and has those of the given inputs that the signal needs
+-- some row is settled in this state, and has the given inputs at the in-signals that the signal needs
 pub record MaySettle (circuit : FlatCircuit) (state : State) (inputs : List ℕ) (out : ℕ) : Type 0 where
   pub others : List ℕ
   pub row : List ℕ
   pub settled : Settled circuit state others row
   pub needs : HasNeeds circuit inputs out row
 
--- The value that a signal has in every row that is settled in this state, with any inputs, and that has those of the
--- given inputs, in port order, that the signal needs. There is such a row.
+-- The value of a signal in every row that is settled in this state and has the given inputs, in port order, at the
+-- in-signals that the signal needs. There is such a row.
 pub record IsConeValue (circuit : FlatCircuit) (state : State) (inputs : List ℕ) (out value : ℕ) : Type 0 where
   pub every : (others row : List ℕ) → Settled circuit state others row → HasNeeds circuit inputs out row → value_at row out ≡ value
   pub some : MaySettle circuit state inputs out

@@ -6,7 +6,8 @@ use Rattle.gg_flat.specs.Circuit.{FlatCircuit, signal_shapes}
 use Rattle.gg_flat.specs.Reads.{Reaches}
 use Rattle.gg_order.specs.runs.Room.{HasRoom}
 
--- A place for the value of each signal, a mark for each signal whose value is there, and room for this many nodes.
+-- A place for the value of each signal, a mark for each signal that says whether its value is there, and room for this
+-- many nodes.
 pub record Slotted : Type 0 where
   pub values : List ℕ
   pub done : List Bool
@@ -42,7 +43,7 @@ HasInputs circuit slots = (place : ℕ) → place < length circuit.ins → HasIn
 abbrev pub HasNeeded : FlatCircuit → Slotted → ℕ → Type 0
 HasNeeded circuit slots out = (place : ℕ) → place < length circuit.ins → Reaches circuit out (value_at circuit.ins place) → HasInput circuit slots place
 
--- What was done before, and what a signal reaches, is done. If not all inputs were put before, nothing else is.
+-- What was done before is done, and what a signal reaches. If not all inputs were put before, no other signal is done.
 pub record DoneWith (circuit : FlatCircuit) (out : ℕ) (before after : Slotted) : Type 0 where
   pub done : (s : ℕ) → IsDone before s ⊎ Reaches circuit out s → IsDone after s
   pub only : (s : ℕ) → IsDone after s → IsDone before s ⊎ Reaches circuit out s ⊎ HasInputs circuit before

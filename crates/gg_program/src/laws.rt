@@ -5,7 +5,7 @@ ghost use Rattle.gg_flat.specs.State.{State};
 ghost use Rattle.gg_program.specs.ConeValue.{IsConeValue};
 ghost use Rattle.gg_program.specs.inside.ConeValue.{IsGivenByNeeds};
 
-/// A state and inputs give a signal one value. Inputs that agree on those that it needs give it the same value.
+/// A state and inputs give a signal one value. Inputs that agree on what it needs give it the same value.
 pub fn one_cone_value()
     ensures once { (circuit : FlatCircuit) (state : State) (inputs : List ℕ) (out value other : ℕ)
         → IsConeValue circuit state inputs out value → IsConeValue circuit state inputs out other → value ≡ other }

@@ -4,11 +4,10 @@
 //! hold the values of one cycle. A signal is done if its value of this cycle is in its place. An input is put into
 //! its place, and a signal that is done isn't evaluated again. [`Steps`] count the evaluations. The crate promises:
 //!
-//! - `Program::needs` is exactly the in-signals to which a path of reads leads from the out-signal;
-//! - `Program::cone_once` gives the value that the out-signal has in every settled row of the state that has the
-//!   needed inputs. So the value depends on no other input (`one_cone_value`). Afterwards those signals are done that
-//!   were done before or that the out-signal reaches, and no others unless all inputs were put. The steps, together with
-//!   the signals that have still to be evaluated (`unset`), are no more than those before. If all that it reaches was
+//! - `Program::needs` lists exactly the in-signals that the out-signal reaches by a path of reads;
+//! - `Program::cone_once` returns the out-signal's value in every settled row of the state with the needed inputs. It depends on no other input
+//!   (`one_cone_value`). Afterwards the signals are done that were done before or that the out-signal reaches, and no others unless all inputs were
+//!   put. The steps, together with the signals that have still to be evaluated (`unset`), are no more than those before. If all that it reaches was
 //!   done, no step is taken;
 //! - `Program::next_once` goes to the next state by the settled values with the inputs that were put. It takes at most
 //!   `unset` steps. Afterwards no signal is done;

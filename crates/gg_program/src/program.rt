@@ -97,7 +97,7 @@ impl<'a> Program<'a> {
         Ok(Program { piece, tape, needs })
     }
 
-    /// The circuit, which is well formed and in an order of evaluation. The program's needs are those of its
+    /// The circuit, which is well formed and in an order of evaluation. The program's needs are the needs of its
     /// out-signals.
     pub fn piece(&self) -> &Piece
         ensures circuit { result.now ≡ self.now.circuit }
@@ -108,8 +108,8 @@ impl<'a> Program<'a> {
         self.piece
     }
 
-    /// What the out-signal at this place needs: the places of exactly the in-signals to which a path of reads leads
-    /// from it, ascending.
+    /// What the out-signal at this place needs: the places of exactly the in-signals that it reaches by a path of
+    /// reads, ascending.
     pub fn needs(&self, out: u32) -> &[u32]
         requires { out < length self.now.circuit.outs }
         ensures exact { AreNeeds self.now.circuit (value_at self.now.circuit.outs out) result.now }
@@ -118,7 +118,7 @@ impl<'a> Program<'a> {
         self.needs[out as usize].as_slice()
     }
 
-    /// Slots for the program, in which no signal is done.
+    /// Slots for the program, with no signal done.
     ///
     /// # Errors
     ///
@@ -132,10 +132,9 @@ impl<'a> Program<'a> {
     }
 
     /// Puts the input at this place, in port order, into the place of its in-signal. The in-signal is done then.
-    /// Nothing else changes.
+    /// Otherwise nothing changes.
     ///
-    /// The input has the in-signal's type, and the in-signal isn't done yet. The slots are those of the program's
-    /// circuit.
+    /// The input has the in-signal's type, and the in-signal isn't done yet. The slots are of the program's circuit.
     pub fn put(&self, slots: &mut Slots, place: u32, input: u128)
         requires place { place < length self.now.circuit.ins }
         requires typed { Fits (shape_at (in_shapes self.now.circuit) place) input }
@@ -155,7 +154,7 @@ impl<'a> Program<'a> {
     /// before. If all inputs were put, more may be done. Each signal that wasn't done is evaluated at most once, and no
     /// other. It allocates nothing.
     ///
-    /// State and slots are those of the program's circuit, in a cycle from this state.
+    /// State and slots are of the program's circuit, in a cycle from this state.
     pub fn cone_once<L: Ledger>(
         &self,
         state: &State,
@@ -182,11 +181,11 @@ impl<'a> Program<'a> {
         slots.value(signal)
     }
 
-    /// Completes a cycle for which all inputs were put, with these edges. The state becomes the next one by the settled
+    /// Completes a cycle with these edges, after all inputs were put. The state becomes the next one by the settled
     /// values with these inputs, and no signal is done any more. Each signal that isn't done is evaluated at most once,
     /// and no other. It allocates nothing.
     ///
-    /// State and slots are those of the program's circuit, in a cycle from this state.
+    /// State and slots are of the program's circuit, in a cycle from this state.
     pub fn next_once<L: Ledger>(
         &self,
         state: &mut State,
@@ -206,7 +205,7 @@ impl<'a> Program<'a> {
         slots.next(self.piece, &self.tape, state, edges, steps);
     }
 
-    /// `cone_once`, with nobody who looks at the steps.
+    /// `cone_once` without a count of the steps.
     pub fn run_cone(&self, state: &State, slots: &mut Slots, out: u32) -> u128
         requires out { out < length self.now.circuit.outs }
         requires state { IsState self.now.circuit state.now }
@@ -220,7 +219,7 @@ impl<'a> Program<'a> {
         self.cone_by::<Brand>(state, slots, out, Blank::new(1))
     }
 
-    /// `next_once`, with nobody who looks at the steps.
+    /// `next_once` without a count of the steps.
     pub fn run_next(&self, state: &mut State, slots: &mut Slots, edges: &[bool])
         requires state { IsState self.now.circuit state.old }
         requires cycle { InCycle self.now.circuit state.old slots.old }

@@ -82,7 +82,7 @@ impl Slots {
     }
 
     /// Puts a value into the place of an in-signal, given by its number among the signals. The signal is done then.
-    /// All else stays.
+    /// Otherwise nothing changes.
     pub fn put(&mut self, signal: u32, value: u128)
         requires value { signal < length self.old.values }
         requires done { signal < length self.old.done }
@@ -93,7 +93,7 @@ impl Slots {
         self.puts = self.puts.saturating_add(1);
     }
 
-    /// No signal is done any more. All else stays.
+    /// Marks each signal as not done. Otherwise nothing changes.
     pub fn clear(&mut self)
         ensures exact { self.new ≡ record { values = self.old.values; done = replicate (length self.old.done) false; room = self.old.room } }
         ensures none { NoneDone self.new }
@@ -120,8 +120,8 @@ impl Slots {
         self.search.is_marked(signal)
     }
 
-    // Whether to evaluate all signals for one that is asked for: unless it is to be evaluated alone, if all inputs were
-    // put. Without as many puts as inputs no mark is looked at.
+    // Whether `reach` evaluates all signals: if all inputs were put, unless only one signal is to be evaluated. With
+    // fewer puts than inputs no mark is looked at.
     fn takes_all(&self, piece: &Piece, alone: bool) -> bool
         requires formed { IsWellFormed piece.now }
         requires count { length self.now.done ≡ length piece.now.signals }
@@ -130,8 +130,8 @@ impl Slots {
         !alone && self.puts >= piece.ins().len() && are_marked(self.search.marks(), piece.ins())
     }
 
-    // Evaluates what a signal reaches and isn't done. All inputs that it needs are done. If all inputs are done, and it
-    // isn't to be evaluated alone, all signals are evaluated, so that nothing is searched for in this cycle any more.
+    // Evaluates what a signal reaches and isn't done. All inputs that it needs are done. If all inputs are done and
+    // `alone` is false, all signals are evaluated, so that nothing is searched for in this cycle any more.
     pub(crate) fn reach<L: Ledger>(
         &mut self,
         piece: &Piece,
@@ -163,7 +163,7 @@ impl Slots {
         }
     }
 
-    // Evaluates what a signal reaches and isn't done, and nothing else.
+    // Evaluates exactly what a signal reaches and isn't done.
     fn cone<L: Ledger>(
         &mut self,
         piece: &Piece,

@@ -42,7 +42,7 @@ pub data LinePlace : Type 0 where
   InStatements : LinePlace
   -- after a memory's line or one of its fields
   InFields : LinePlace
-  -- after the first line of a register whose reset is on the next
+  -- after the first line of a register with its reset on the next
   AwaitsReset : LinePlace
 
 -- the position after a statement's line
@@ -75,7 +75,7 @@ after_module AfterVersion = None
 after_module AwaitsReset = None
 after_module InFields = Some InPorts
 
--- a version line may only stand at the beginning
+-- a version line may only be at the beginning
 abbrev pub after_version : LinePlace → Option LinePlace
 after_version AtStart = Some AfterVersion
 after_version AfterVersion = None
@@ -85,7 +85,7 @@ after_version InStatements = None
 after_version AwaitsReset = None
 after_version InFields = None
 
--- the circuit's line may stand at the beginning, or follow the version line
+-- the circuit's line may be at the beginning, or follow the version line
 abbrev pub after_circuit : LinePlace → Option LinePlace
 after_circuit AtStart = Some AfterCircuit
 after_circuit AfterVersion = Some AfterCircuit
@@ -105,7 +105,7 @@ after_port InStatements = None
 after_port AwaitsReset = None
 after_port InFields = None
 
--- the second line of a register may only follow its first, and the next line stands as after a statement
+-- the second line of a register may only follow its first; the position after it is as after a statement
 abbrev pub after_reset : LinePlace → Option LinePlace
 after_reset AwaitsReset = Some InStatements
 after_reset AtStart = None
@@ -166,7 +166,7 @@ IsEndPlace InStatements = Unit {0}
 IsEndPlace InFields = Unit {0}
 IsEndPlace AwaitsReset = ⊥
 
--- how many of the tokens open a bracket, and how many close one
+-- how many of the tokens open a bracket
 abbrev pub opened : List Tok → ℕ
 opened [] = 0
 opened (Symbol mark.OpenParen ∷ ts) = 1 + opened ts
@@ -178,8 +178,8 @@ closed [] = 0
 closed (Symbol mark.CloseParen ∷ ts) = 1 + closed ts
 closed (t ∷ ts) = closed ts
 
--- At some token the count of `(` from the line's beginning up to it, less that of `)`, is above 256. Nothing is said of
--- earlier tokens: the difference may be below 0 there, so a `)` and then 257 `(` are not too deep, and 258 are.
+-- At some token the count of `(` from the line's beginning up to it, less the count of `)`, is above 256. At earlier tokens the difference
+-- may be below 0, so a `)` and then 257 `(` are not too deep, and 258 are.
 abbrev pub IsTooDeep : List Tok → Type 0
 IsTooDeep ts = (k : ℕ) × (256 + closed (take k ts) < opened (take k ts))
 
@@ -193,7 +193,7 @@ pub record IsForm (place : LinePlace) (line : LineTokens) (row : Row) (next : Li
   pub spelt : SpellsRow row line.tokens
   pub there : place_after place row ≡ Some next
 
--- the lines, the first of which has this number, are these rows; the position goes from each to the next
+-- the lines are these rows, and the first line has this number; the position goes from each to the next
 abbrev pub AreRows : LinePlace → ℕ → List LineTokens → List Numbered → LinePlace → Type 0
 AreRows place n [] rows last = (rows ≡ []) × (last ≡ place)
 AreRows place n (line ∷ more) rows last =

@@ -1,4 +1,4 @@
-//! What follows from the definitions alone.
+//! Laws that follow from the definitions.
 ghost use Rattle.std.specs.Prelude.{◌≡◌, ◌⊎◌, ℕ, List};
 ghost use Rattle.std.specs.Str.{IsUtf8};
 ghost use Rattle.gg_ast.specs.inside.Names.{AreNamesOfCircuit};

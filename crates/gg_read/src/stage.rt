@@ -15,7 +15,7 @@ use gg_bits::Name;
 use gg_read_row::{LineRow, RowFault};
 use std::alloc::Global;
 
-// A register whose reset is on the next line.
+// A register with its reset on the next line.
 pub(crate) struct OpenRegister {
     // The line of the register.
     pub(crate) line: u64,
@@ -79,14 +79,14 @@ pub(crate) enum Stage {
     Statements(Circuit),
     // After a memory's line or one of its fields.
     Fields(Circuit),
-    // After the first line of a register whose reset is on the next.
+    // After the first line of a register with its reset on the next.
     Open(Circuit, OpenRegister),
 }
 
 // The stage after one more row, which is on this line.
 //
-// Returns `NoForm` exactly if the row is not valid at its position. Nothing is said of a statement that is no row by
-// itself, such as a register with its reset: the reader of lines never returns one.
+// Returns `NoForm` exactly if the row is not valid at its position. The contract leaves out a statement that is no row
+// by itself, such as a register with its reset: the reader of lines never returns one.
 pub(crate) fn advance(
     alloc: Global,
     stage: Stage,
@@ -394,7 +394,7 @@ fn add_field(circuit: Circuit, field: Field) -> Result<Stage, RowFault>
     Ok(Stage::Fields(circuit))
 }
 
-// The first line of a register whose reset is on the next.
+// The first line of a register with its reset on the next.
 fn open(stage: Stage, register: OpenRegister) -> Result<Stage, RowFault>
     requires named { AreNamesOfRegister register }
     requires stage { (line : ℕ) × IsStage stage line }

@@ -37,11 +37,11 @@ pub enum ReadFault {
 ///
 /// # Errors
 ///
-/// Returns `NotText` exactly if the bytes are not UTF-8. Otherwise the fault is that of the first line that is not
-/// valid at its position or is too deep, even if it spells a row. If there is none and the text is incomplete, the
-/// fault is that of the line after the last. The fault is `TooDeep` if at some token of the line the count of `(` less
-/// that of `)` is above 256. Otherwise it is `Outside` with the line's first word that is left out of the language, or
-/// `Syntax` if there is none. Returns `NoMemory` if an allocation fails; this has no cause in the text.
+/// Returns `NotText` exactly if the bytes are not UTF-8. Otherwise the line at fault is the first that is not valid at
+/// its position or is too deep, even if it spells a row. If there is none and the text is incomplete, it is the line
+/// after the last. The fault is `TooDeep` if at some token of the line the count of `(` less the count of `)` is above
+/// 256. Otherwise it is `Outside` with the line's first word that is left out of the language, or `Syntax` if there is
+/// none. Returns `NoMemory` if an allocation fails; this has no cause in the text.
 pub fn read_circuit(alloc: Global, bytes: &[u8]) -> Result<Circuit, ReadFault>
     requires { length bytes.now < 2 ^ 32 }
     ensures circuit { IfOk result (Spells bytes.now) }

@@ -33,7 +33,7 @@ is_digit_of Octal b = nat_lt 47 b && nat_lt b 56
 is_digit_of Decimal b = is_ascii_digit b
 is_digit_of Hexadecimal b = is_ascii_hexdigit b
 
--- one or more digits of the radix, and nothing else
+-- one or more digits of the radix, and nothing more
 abbrev pub are_digits : Radix → List ℕ → Bool
 are_digits radix [] = false
 are_digits radix (d ∷ ds) = list_all (is_digit_of radix) (d ∷ ds)
@@ -42,7 +42,7 @@ are_digits radix (d ∷ ds) = list_all (is_digit_of radix) (d ∷ ds)
 abbrev pub is_natural : List ℕ → Bool
 is_natural digits = are_digits Decimal digits && nat_lt (digits_value 10 digits) (2 ^ 32)
 
--- the digits are those of a natural number, and n is this number
+-- n is the natural number with these digits
 pub record IsNatural (digits : List ℕ) (n : ℕ) : Type 0 where
   pub decimal : IsTrue (is_natural digits)
   pub value : digits_value 10 digits ≡ n
@@ -74,7 +74,7 @@ number_token Octal digits = Text (111 ∷ digits)
 number_token Decimal digits = Number digits
 number_token Hexadecimal digits = Text (104 ∷ digits)
 
--- the byte of the letter that stands for a radix: `b`, `o`, `d` or `h`
+-- the byte of a radix's letter: `b`, `o`, `d` or `h`
 abbrev pub letter_of : Radix → ℕ
 letter_of Binary = 98
 letter_of Octal = 111

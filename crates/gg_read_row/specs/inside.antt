@@ -1,3 +1,3 @@
--- Definitions that no promise of the program speaks of: those of single functions, and those of proofs.
+-- Definitions that no promise of the program reaches: for single functions, and for proofs.
 pub mod LineRows
 pub mod Reading

@@ -224,7 +224,7 @@ impl<'a> Cursor<'a> {
         }
     }
 
-    // The first word of a line whose first word isn't the name of a sink.
+    // The first word of a line, if that isn't the name of a sink.
     pub(crate) fn keyword(&mut self) -> Result<Keyword, RowFault>
         ensures { Reads (λ k. k) result self.new (keyword_at self.old) }
     {

@@ -47,7 +47,7 @@ fn are_all_digits(radix: Radix, bytes: &[u8]) -> bool
     bytes.iter().all(|byte| is_digit_of(radix, *byte))
 }
 
-// The number that decimal digits without a sign stand for, if it is at most 4,294,967,295.
+// The number of decimal digits without a sign, if it is at most 4,294,967,295.
 pub(crate) fn natural_value(digits: &str) -> Option<u32>
     ensures { result ≡ natural_of digits.now }
 {
@@ -90,7 +90,7 @@ fn signed_digits(alloc: Global, radix: Radix, bytes: &[u8]) -> Result<Digits, Ro
     }
 }
 
-// The radix whose letter this byte is.
+// The radix with this letter.
 fn radix_of(byte: u8) -> Option<Radix>
     ensures { result ≡ radix_of byte }
 {
@@ -115,7 +115,7 @@ pub(crate) fn text_digits(alloc: Global, bytes: &[u8]) -> Result<Digits, RowFaul
     }
 }
 
-// The radix whose letter may be behind a `0`.
+// The radix that this letter names after a `0`.
 fn zero_radix(letter: u8) -> Option<Radix>
     ensures { result ≡ zero_radix letter }
 {
@@ -125,8 +125,8 @@ fn zero_radix(letter: u8) -> Option<Radix>
     }
 }
 
-// The radix of a number and its digits: those behind `0` and the letter of a radix, or else all of the bytes, which
-// are decimal.
+// The radix of a number and its digits: the digits after `0` and the letter of a radix, or otherwise all of the bytes,
+// in decimal.
 fn split_radix(bytes: &[u8]) -> (Radix, &[u8])
     ensures radix { result.0 ≡ (split_radix bytes.now).0 }
     ensures digits { result.1.now ≡ (split_radix bytes.now).1 }
@@ -140,7 +140,7 @@ fn split_radix(bytes: &[u8]) -> (Radix, &[u8])
     }
 }
 
-// The bytes of a number as a literal's: a `-` may be before the radix, or else before the digits.
+// The bytes of a number as a literal's: a `-` may be before the radix or before the digits, but not before both.
 pub(crate) fn number_digits(alloc: Global, bytes: &[u8]) -> Result<Digits, RowFault>
     ensures { Finds (λ d. d) result (number_digits bytes.now) }
 {

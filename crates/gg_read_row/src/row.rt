@@ -30,9 +30,9 @@ pub enum LineRow {
     Statement(StmtKind),
     /// A register with its reset, the condition and the initial value, on the same line.
     RegisterReset(Name, GroundType, Expr, Expr, Expr),
-    /// The first line of a register whose reset is on the next line.
+    /// The first line of a register with its reset on the next line.
     RegisterOpen(Name, GroundType, Expr),
-    /// That next line: the condition and the initial value.
+    /// The next line of such a register: the condition and the initial value.
     Reset(Expr, Expr),
     /// The first line of a memory.
     Memory(Name),

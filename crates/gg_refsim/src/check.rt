@@ -186,7 +186,7 @@ fn may_drive_all(piece: &Piece) -> bool
     true
 }
 
-// Whether every in-signal is a signal whose driver names its place among the in-signals.
+// Whether every in-signal is a signal, and its driver names its place among the in-signals.
 fn are_ins(piece: &Piece) -> bool
     ensures { IsTrue result ↔ ((place : ℕ) → place < length piece.now.ins
         → (value_at piece.now.ins place < length piece.now.signals)
@@ -216,7 +216,7 @@ fn are_outs(piece: &Piece) -> bool
 pub fn is_well_formed(piece: &Piece) -> bool
     ensures { IsTrue result ↔ IsWellFormed piece.now }
 {
-    // for the invariant alone: each signal has its own path
+    // for the invariant only: each signal has its own path
     let _ = piece.signal_count();
     if !are_ins(piece) {
         return false;

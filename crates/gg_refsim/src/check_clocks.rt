@@ -4,7 +4,7 @@ ghost use Rattle.gg_flat.specs.WellFormed.{IsClock, IsClockedMemory};
 
 use gg_flat::{Memory, Piece, Reader, Register, Writer};
 
-// Whether a clock is one of this many, or that of every tick.
+// Whether a clock is one of this many, or the clock of every tick.
 fn is_clock(count: u32, clock: Option<u32>) -> bool
     ensures { IsTrue result ↔ IsClock count clock }
 {
@@ -72,7 +72,7 @@ fn are_register_clocks(count: u32, registers: &[Register]) -> bool
     true
 }
 
-// Whether the clock of each register, and of each port of a memory, is one of the piece's or that of every tick.
+// Whether the clock of each register, and of each port of a memory, is one of the piece's or the clock of every tick.
 pub(crate) fn are_clocked(piece: &Piece) -> bool
     ensures { IsTrue result ↔ (All (λ register. IsClock piece.now.clocks register.clock) piece.now.registers × All (IsClockedMemory piece.now.clocks) piece.now.memories) }
 {

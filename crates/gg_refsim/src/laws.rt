@@ -4,7 +4,7 @@ ghost use Rattle.gg_flat.specs.Circuit.{FlatCircuit};
 ghost use Rattle.gg_flat.specs.Run.{Start, IsRunFrom, state_at};
 ghost use Rattle.gg_refsim.specs.inside.RunByCycles.{RunContinues, StateContinues};
 
-/// The empty list of rows is the run of 0 cycles from a start. The state after it is that of the start.
+/// The empty list of rows is the run of 0 cycles from a start. The state after it is the start's.
 pub fn run_begins()
     ensures run { (circuit : FlatCircuit) (start : Start) (columns : List (List ℕ)) → IsRunFrom circuit start columns 0 [] }
     ensures state { (circuit : FlatCircuit) (start : Start) → start.state ≡ state_at circuit start [] 0 }

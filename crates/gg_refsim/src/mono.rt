@@ -87,8 +87,8 @@ impl<'a> Model for Mono<'a> {
 }
 
 impl<'a> Mono<'a> {
-    /// The simulator of a design whose clocks have these ratios, in the order in which the circuit lists them, in the
-    /// state before the first cycle. A clock past the end of the list has an edge in every cycle.
+    /// The simulator of a design in the state before the first cycle. The clocks have these ratios, in the order of the
+    /// circuit's clocks. A clock past the end of the list has an edge in every cycle.
     ///
     /// # Errors
     ///
@@ -123,7 +123,7 @@ impl<'a> Mono<'a> {
         ensures ordered { (order : List ℕ) × IsOrder self.now.circuit order }
         ensures typed { IsState self.now.circuit self.now.state }
     {
-        // for the invariant alone
+        // for the invariant only
         let _ = self.design.order();
         self.design.piece()
     }
@@ -145,7 +145,7 @@ impl<'a> Mono<'a> {
             → (printed ≡ outs.new) × (after ≡ self.new.state) }
     {
         let piece = self.design.piece();
-        // for the invariant alone
+        // for the invariant only
         let _ = self.design.order();
         self.tape
             .settle(piece, &self.state, inputs, &mut self.cells);

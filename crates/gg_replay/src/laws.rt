@@ -5,7 +5,7 @@ ghost use Rattle.gg_node.specs.Machine.{Machine};
 ghost use Rattle.gg_net.specs.declared.shape.Wire.{Wire};
 ghost use Rattle.gg_replay.specs.inside.Log.{OpensWithFronts};
 
-/// Before the first cycle a log of the tokens with which the channels open is right, if all begins with cycle 0.
+/// Before the first cycle the opening log of the channels is right, if the flow begins with cycle 0.
 pub fn opens_with_first_tokens()
     ensures { (flow : Flow) (machines : List Machine) (wires : List Wire) (end : ℕ) → flow.begin ≡ 0
         → OpensWithFronts flow machines wires end }

@@ -27,7 +27,7 @@ impl Model for Log {
     ghost view = { λ log. map (λ list. list.items) log.lists.items };
 }
 
-// The token with which a channel opens, if there is one.
+// The token that a channel opens with, if there is one.
 fn first_tokens(alloc: Global, first: Option<u128>) -> Result<Vec<u128>, AllocError>
     ensures { IfOk result (λ tokens. tokens.items ≡ opening_queue first) }
 {
@@ -39,7 +39,7 @@ fn first_tokens(alloc: Global, first: Option<u128>) -> Result<Vec<u128>, AllocEr
 }
 
 impl Log {
-    /// A log for these channels before the first cycle. It has the tokens with which they open, and no others.
+    /// A log of these channels before the first cycle. It only has the tokens that they open with.
     ///
     /// # Errors
     ///
@@ -62,7 +62,7 @@ impl Log {
         self.lists[channel as usize].as_slice()
     }
 
-    // Appends a token to those of a channel.
+    // Appends a token to a channel's tokens.
     pub(crate) fn push(&mut self, channel: u32, token: u128) -> Result<(), AllocError>
         requires { channel < length self.old }
         ensures { OnOk result (self.new ≡ slice_set self.old channel (tokens_at self.old channel ++ token ∷ [])) }

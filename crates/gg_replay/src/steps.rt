@@ -24,7 +24,7 @@ fn try_step<H: Host, Z: Streams>(
     }
 }
 
-// Adds the newest token of a channel, whose token was just given, to the log.
+// Adds the newest token of a channel to the log, after the channel was fired.
 fn add_newest<H: Host, Z: Streams>(
     net: &Net<H, Z>,
     channel: u32,
@@ -73,8 +73,8 @@ fn note<H: Host, Z: Streams>(
 ///
 /// # Errors
 ///
-/// Returns `Refused` with the number, counted from 1, and the cause of the first step that is refused. The steps before
-/// it are then done, and no others. Returns `NoMemory` if an allocation fails.
+/// Returns `Refused` with the number, counted from 1, and the cause of the first step that is refused. Then only the
+/// steps before it are done. Returns `NoMemory` if an allocation fails.
 pub fn replay<H: Host, Z: Streams>(
     net: &mut Net<H, Z>,
     steps: &[Option<Event>],

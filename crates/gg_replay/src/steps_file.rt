@@ -1,4 +1,4 @@
-//! Steps files, and the text of the cause for which a step wasn't done.
+//! Steps files, and the text of the cause of a refused step.
 //!
 //! A steps file lists the steps of a network, one on each line. This module promises:
 //!
@@ -6,7 +6,7 @@
 //!   a step exactly if it spells that step ([`steps_are_spelt`]). If all names can be used in a line, each step has a
 //!   line ([`steps_have_lines`]).
 //! - [`cause_text`] returns the exact text of a cause, with the names of the channels and ports.
-//! - [`StepNames`] holds the names of channels, machines and ports. If several names equal a word, it names the first.
+//! - [`StepNames`] has the names of channels, machines and ports. If several names equal a word, it names the first.
 //!
 //! Any call that allocates may return `AllocError`. The time to read a file grows with its length and not with the
 //! number of names.

@@ -13,7 +13,7 @@ use atomic_table::Closed;
 use std::alloc::Global;
 use std::collections::VecDeque;
 
-// What the words of value k hold.
+// Value k, from its two words.
 fn value_at(closed: &Closed<(), Global>, capacity: u64, k: u64) -> u128
     requires words { IsFull closed.now.words × (slots_len closed.now.words ≡ 2 + 2 * capacity) }
     requires capacity { (0 < capacity) × (capacity < 4294967296) }

@@ -1,4 +1,4 @@
-//! How a ring is made, and gets what is held.
+//! How a ring is made, and gets the values of a deque.
 ghost use Rattle.std.specs.Prelude.{◌≡◌, ℕ, ◌+◌, ◌*◌, ◌<◌, ◌≤◌, List, [], ◌++◌, IfOk, length};
 ghost use Rattle.std.specs.VecDeque.{deque_items, deque_len, deque_capacity};
 ghost use Rattle.gg_link.specs.Seats.{Starts, stream_limit};

@@ -8,7 +8,7 @@ use std::hint;
 const LONGEST_PAUSE: u64 = 256;
 
 impl Ring {
-    // The place behind the one of value `count`, without a division.
+    // The place after the place of value `count`, without a division.
     pub(crate) fn behind(&self, place: u64, _count: u64) -> u64
         requires place { place ≡ _count % self.now.capacity }
         ensures { result ≡ (_count + 1) % self.now.capacity }

@@ -45,7 +45,7 @@ impl Ring {
         seat.puts += 1;
     }
 
-    // Looks only where the ring may be full by what the seat has seen.
+    // Puts a value, or finds the ring full. Looks only if the ring may be full, as far as the seat knows.
     pub(crate) fn try_put(&self, seat: &mut PutSeat, value: u128) -> Result<(), Full>
         requires seat { IsPutSeatOf self.now seat.old }
         requires value { slice_get seat.old.seat.me.0.stream seat.old.puts ≡ Some value }

@@ -1,11 +1,11 @@
-//! What the words of a ring hold and its seats know, and the kinds of step that keep it so.
+//! The words of a ring, the knowledge of its seats, and the kinds of step that keep the rule.
 ghost use Rattle.std.specs.Prelude.{List, ℕ, []};
 
 use atomic_table::{Join, Play, Split, TableRule};
 use std::collections::LinkedList;
 use std::marker::{Brand, PhantomData};
 
-// What a seat knows. No value of it is made.
+// The knowledge of a seat. No value of it is made.
 pub(crate) struct View {
     // whether it may put, and whether it may take
     pub(crate) puts: bool,
@@ -29,7 +29,7 @@ pub(crate) struct View {
     pub(crate) moves: u64,
 }
 
-// The rule of a ring of so many places.
+// The rule of a ring, `Holds`.
 pub(crate) struct RingRule;
 
 impl TableRule<(), View, u64> for RingRule {
@@ -147,7 +147,7 @@ impl<K: Chosen> Split<View> for OpenSeats<K> {
     ghost right = { λ v. taker K.chosen v.capacity 0 0 };
 }
 
-// The whole view is split in two, and the seat that takes knows what was put.
+// The whole view is split in two, and the seat that takes knows all puts so far.
 pub(crate) struct SplitSeats;
 
 impl Split<View> for SplitSeats {

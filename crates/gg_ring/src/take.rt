@@ -44,7 +44,7 @@ impl Ring {
         joined(low, high)
     }
 
-    // Looks only where all that the seat has seen is taken.
+    // Takes a value, or finds none. Looks only if all values that the seat knows of are taken.
     pub(crate) fn try_take(&self, seat: &mut TakeSeat) -> Option<u128>
         requires seat { IsTakeSeatOf self.now seat.old }
         ensures seat { IsTakeSeatOf self.now seat.new }

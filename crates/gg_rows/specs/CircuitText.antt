@@ -17,7 +17,7 @@ stage_module = codes "circuit Demo :\nmodule Stage :\ninput clock : Clock\ninput
 abbrev pub top_ports : List ℕ
 top_ports = codes "module Demo :\ninput clock : Clock\ninput x : UInt<32>\noutput y : UInt<32>\noutput z : UInt<32>\n"
 
--- the line that makes a stage, the one of its clock, and the one that gives it what the stage before it gives
+-- the line that makes a stage
 abbrev pub instance_line : ℕ → List ℕ
 instance_line i = codes "inst " ++ (stage i ++ codes " of Stage\n")
 
@@ -25,7 +25,7 @@ instance_line i = codes "inst " ++ (stage i ++ codes " of Stage\n")
 abbrev pub clock_line : ℕ → List ℕ
 clock_line i = stage i ++ codes ".clock <= clock\n"
 
--- the line that gives the stage with this number what the stage before it gives
+-- the line that connects the stage with this number to the stage before it
 abbrev pub link_line : ℕ → List ℕ
 link_line i = stage i ++ (codes ".a <= " ++ (stage (i - 1) ++ codes ".p\n"))
 

@@ -1,4 +1,4 @@
--- What the contracts of the crate speak of.
+-- The definitions for the contracts of the crate.
 pub mod Rows
 pub mod Printed
 pub mod Sums

@@ -5,11 +5,11 @@ use Rattle.std.specs.Prelude.{ℕ, ◌+◌, ◌*◌, ◌/◌, List, ◌++◌, co
 use Rattle.std.specs.List.{range_with_len, join_by}
 use Rattle.gg_rows.specs.CircuitText.{stage}
 
--- the name of a stage, with a `"` before and behind it
+-- the name of a stage between two `"`
 abbrev pub quoted_stage : ℕ → List ℕ
 quoted_stage i = codes "\"" ++ (stage i ++ codes "\"")
 
--- a list of stages in brackets: this many, from `first` on, each `step` behind the one before
+-- a list of stages in brackets: this many, starting at `first`, each `step` after the one before
 abbrev pub stage_list : (first step count : ℕ) → List ℕ
 stage_list first step count = codes "[" ++ (join_by (λ k. quoted_stage (first + step * k)) (codes ",") (range_with_len 0 count) ++ codes "]")
 

@@ -1,4 +1,4 @@
--- What a demo's network tells: how large it is, and the fold of the rows of its outputs.
+-- The sums of a demo's network: its size, and the fold of the rows of its outputs.
 -- Source: this program's own. MEMOCODE 2009 for steps and their count.
 use Rattle.std.specs.Prelude.{ℕ, List}
 use Rattle.gg_flat.specs.Circuit.{FlatCircuit}

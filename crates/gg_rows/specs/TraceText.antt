@@ -5,7 +5,7 @@ use Rattle.std.specs.Prelude.{ℕ, zero, suc, ◌+◌, ◌*◌, ◌/◌, ◌%◌
 use Rattle.std.specs.Char.{digit_char}
 use Rattle.std.specs.List.{range_with_len}
 
--- the number behind u: 1,664,525 times u plus 1,013,904,223, of which the lower 32 bits are left
+-- the number after u: the lower 32 bits of 1,664,525 times u plus 1,013,904,223
 abbrev pub next_number : ℕ → ℕ
 next_number u = (1664525 * u + 1013904223) % 2 ^ 32
 

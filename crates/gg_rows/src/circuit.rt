@@ -44,7 +44,7 @@ fn push_clocks(alloc: Global, text: &mut String, size: u32) -> Result<(), AllocE
     Ok(())
 }
 
-// Writes the line that gives each stage but the first what the stage before it gives.
+// Writes the lines that connect each stage except the first to the stage before it.
 fn push_links(alloc: Global, text: &mut String, size: u32) -> Result<(), AllocError>
     requires { 0 < size }
     ensures { OnOk result (string_bytes text.new ≡ string_bytes text.old ++ flat_map link_line (range_with_len 1 (size - 1))) }

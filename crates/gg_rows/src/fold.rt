@@ -1,8 +1,7 @@
-//! What is kept of a demo's rows.
+//! The fold of a demo's rows.
 ghost use Rattle.std.specs.Prelude.{◌≡◌, ℕ, suc, List, slice_index};
 
-/// What is kept of a demo's rows: the last values of y and z, and the exclusive or of all values of each. Before the first
-/// row all are 0.
+/// The fold of a demo's rows: the last values of y and z, and the exclusive or of all values of each. Before the first row all are 0.
 #[derive(Clone, Copy)]
 pub struct Fold {
     /// The last value of y.
@@ -18,7 +17,7 @@ pub struct Fold {
 impl Fold {
     ghost use Rattle.gg_rows.specs.inside.Folded.{IsFolded};
 
-    /// Of no row.
+    /// The fold of no row.
     pub fn new() -> Fold
         ensures { (ys zs : List ℕ) → IsFolded ys zs 0 result }
     {

@@ -14,7 +14,7 @@ pub fn openings_are_nets()
     ensures { (plan : Plan) (start : Start) (token : ℕ → ℕ) (columns : List (List ℕ)) (n : ℕ) (net : Network) → IsOpeningFrom plan start token columns n net → IsNetOfPlan plan start token columns n net }
 {}
 
-/// It is kept: all that holds of a network at all times holds of it.
+/// A plan's network before its first step has the invariant `Kept`.
 pub fn openings_are_kept()
     ensures { OpeningsAreKept }
 {}
@@ -24,15 +24,13 @@ pub fn steps_keep_nets()
     ensures { NetsStayOfThePlan }
 {}
 
-/// A window is no longer than what a tray of the network of a plan keeps: at its end the value of each of its cycles is
-/// still there.
+/// A window has at most as many cycles as a tray of a plan's network keeps values: at its end the value of each of its cycles is still there.
 pub fn windows_are_kept()
     ensures { (begun n t : ℕ) → begun ≤ t → window_end begun n ≤ t + tray_rows }
 {}
 
-/// A network that goes on from the network of a plan before its first step, and all of whose machines stand at the end of a
-/// window, has what host steps bring to the trays: for each cycle of the window the outputs of the reference circuit. Nothing else
-/// comes to the trays in any cycle.
+/// Let a network go on from a plan's network before its first step, with all machines at the end of a window. Then its trays have what host steps
+/// bring them: the outputs of the reference circuit, for each cycle of the window. No other value comes to a tray in any cycle.
 pub fn trays_keep_rows()
     ensures keep { TraysGetTheOutputs }
     ensures only { TraysGetNothingElse }

@@ -1,22 +1,21 @@
 //! The rows of a run, from the network of a plan.
 //!
-//! A tray keeps only the last values that it gets. So a network is run a window of cycles at a time, and between two windows the
-//! rows of the window are read and handed over to what takes them ([`Rows`]). The crate promises:
+//! A tray keeps only the last values that it gets. Therefore a network is run a window of cycles at a time. After each window its rows are read and
+//! handed over to a [`Rows`]. The crate promises:
 //!
-//! - [`window_end`] returns where the next window ends: 1,024 cycles on, or at the end;
-//! - [`run_window`] runs a network up to the end of a window, by workers first and then by steps in the order of the network. All
-//!   machines then stand there, and no count is past it;
-//! - [`tray_value`] returns the value of a cycle that a tray keeps: the one that the tray's channel carries in that cycle;
-//! - [`trays_of`] tells which machines of a plan are its trays;
-//! - [`output_values`] returns the values of the circuit's out-signals in a cycle, from the network of a plan: those of the
-//!   run of the plan's circuit (the reference circuit with the models of the bridges);
+//! - [`window_end`] returns where the next window ends: 1,024 cycles later, or at the end;
+//! - [`run_window`] runs a network up to the end of a window, by workers first and then by steps in the order of the network. All machines are then
+//!   there, and no count is past it;
+//! - [`tray_value`] returns the value of a cycle that a tray keeps: its channel's value in that cycle;
+//! - [`trays_of`] returns the trays of a plan;
+//! - [`output_values`] returns the values of the circuit's out-signals in a cycle, from the network of a plan. They are the values in the run of the
+//!   plan's circuit (the reference circuit with the models of the bridges);
 //! - host steps bring these values to the trays, and bring no others there, whatever steps are done ([`trays_keep_rows`]);
-//! - [`run_rows`] runs a network and hands over its rows, one after another, until one is the last. The rows are those of the
-//!   run of the plan's circuit, and host steps bring them to the trays. It is the one loop over windows;
-//! - [`RowPrinter`] writes a row, and goes on unless a stop acts in it; [`print_net`] prints the run of a plan's network so, and
-//!   [`print_from`] a run from any start. The text is that of the run of the plan's circuit, to the row of the first cycle in which a stop
-//!   acts;
-//! - [`run_to_stop`] runs a network to its end, and tells the first cycle in which a stop ends the run;
+//! - [`run_rows`] runs a network and hands over its rows, one after another, until one is the last. The rows are from the run of the plan's circuit,
+//!   and host steps bring them to the trays. It is the one loop over windows;
+//! - [`RowPrinter`] writes a row, and goes on unless a stop acts in it. With it [`print_net`] prints the run of a plan's network, and [`print_from`]
+//!   a run from any start. The text is the run of the plan's circuit, up to the row of the first cycle where a stop acts;
+//! - [`run_to_stop`] runs a network to its end, and returns the first cycle where a stop ends the run;
 //! - [`sum_net`] counts the network of a plan and the steps from its opening to its end, runs it, and folds its rows;
 //! - [`put_summary`] writes the four lines of a demo's summary, one piece each.
 //!
@@ -26,9 +25,8 @@
 //! - the circuit (CircuitText), the partition (PartitionText) and the trace (TraceText);
 //! - the four lines of the summary (SummaryText).
 //!
-//! The crate promises that `circuit_text`, `partition_text` and `trace_text` return these texts, and that
-//! `size_line`, `network_line`, `last_line` and `fold_line` return the lines. A [`Fold`] keeps what the last two lines
-//! tell: it is given the rows one after another.
+//! The crate promises that `circuit_text`, `partition_text` and `trace_text` return these texts, and that `size_line`, `network_line`, `last_line`
+//! and `fold_line` return the lines. A [`Fold`] takes the rows one after another, and keeps the values of the last two lines.
 #![tactic(auto)]
 
 mod circuit;

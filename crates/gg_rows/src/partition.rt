@@ -5,7 +5,7 @@ ghost use Rattle.gg_rows.specs.PartitionText.{capacities, demo_partition, quoted
 
 use std::alloc::{AllocError, Global};
 
-// A list of stages in brackets: this many, from `first` on, each `step` behind the one before.
+// A list of stages in brackets: this many, starting at `first`, each `step` after the one before.
 fn stage_list(alloc: Global, first: u32, step: u32, count: u32) -> Result<String, AllocError>
     requires { first + step * count < 2 ^ 32 }
     ensures { IfOk result (λ text. string_bytes text ≡ stage_list first step count) }

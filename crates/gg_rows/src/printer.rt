@@ -10,13 +10,13 @@ use gg_trace::{acts, row_text};
 use std::alloc::Global;
 use std::marker::Model;
 
-/// Writes rows: of each the first values, one for each port. The others are conditions of stops, and the first row in which a stop acts
-/// is the last one. A stop acts in a cycle in which its clock has an edge.
+/// Writes rows: of each the first values, one for each port. The other values are conditions of stops, and the first row where a stop acts is the
+/// last one. A stop acts only in a cycle where its clock has an edge.
 #[derive(Drop)]
 pub struct RowPrinter<'p> {
     alloc: Global,
     ports: &'p Ports,
-    // of the clocks of the stops
+    // the ratios of the clocks of the stops
     stops: &'p [Ratio],
 }
 
@@ -29,7 +29,7 @@ impl<'p> Model for RowPrinter<'p> {
 }
 
 impl<'p> RowPrinter<'p> {
-    /// For these ports, and for stops whose clocks have these ratios. Without ratios each clock has an edge in each cycle.
+    /// A printer for these ports, and for stops with clocks of these ratios. Without ratios each clock has an edge in each cycle.
     pub fn new(alloc: Global, ports: &'p Ports, stops: &'p [Ratio]) -> RowPrinter<'p>
         ensures { result ≡ record { ports = ports.now; stops = stops.now } }
     {

@@ -22,11 +22,11 @@ use gg_trace::{Trace, header_text};
 use std::alloc::Global;
 use std::thread::Threads;
 
-/// Prints a run from a network before its first step: a header, and then the rows from cycle `begin` on, a window at a time. The network
-/// is run by this many workers, and then by steps in the order of the network. The values of a row are those of the first out-signals, of which
-/// there is one for each of the trays, one for each port; the others are conditions of stops, and `stops` has the ratios of their clocks. The last row is
-/// that of the first cycle in which a stop acts, if one does, and no window begins after that cycle. Host steps bring all these values to
-/// the trays of the network, and bring no others there.
+/// Prints a run from a network before its first step: a header, and then the rows starting at cycle `begin`, a window at a time. The network is run
+/// by this many workers, and then by steps in the order of the network. There is an out-signal for each tray. A row has the values of the first ones,
+/// one for each port; the others are conditions of stops, and `stops` has the ratios of their clocks. The last row is the row of the first cycle
+/// where a stop acts, if one does, and no window begins after that cycle. Host steps bring all these values to the trays of the network, and bring no
+/// others there.
 ///
 /// # Errors
 ///
@@ -73,11 +73,11 @@ pub fn print_from<R: Threads + Sync, B: Bridge + Send + Drop, Z: Streams, K: Sin
     Ok(())
 }
 
-/// Prints the run of the circuit of a plan of the design, which is the reference circuit with the models of the bridges, from the plan's network: a header, and then the rows, a window
-/// at a time. The network is run by this many workers, and then by steps in the order of the network. The values of a row are those of the
-/// first out-signals, one for each port; the others are conditions of stops. The last row is that of the first cycle in which a stop
-/// acts, if one does, and no window begins after that cycle. A stop acts in a cycle in which its condition is one and its clock has
-/// an edge. Host steps bring all these values to the trays of the plan's network, and bring no others there.
+/// Prints the run of the circuit of a plan of the design from the plan's network: a header, and then the rows, a window at a time. The circuit is the
+/// reference circuit with the models of the bridges. The network is run by this many workers, and then by steps in the order of the network. A row
+/// has the values of the first out-signals, one for each port; the others are conditions of stops. The last row is the row of the first cycle where a
+/// stop acts, if one does, and no window begins after that cycle. A stop acts in a cycle if its condition is one and its clock has an edge. Host
+/// steps bring all these values to the trays of the plan's network, and bring no others there.
 ///
 /// # Errors
 ///

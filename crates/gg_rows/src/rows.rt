@@ -10,8 +10,7 @@ use gg_bridge::Bridge;
 use gg_build::Node;
 use gg_net::{Net, Streams};
 
-/// The value of a cycle that a tray keeps. It is the value that the tray's channel carries in that cycle. If the machine
-/// is no tray or doesn't keep the value, 0.
+/// The value of a cycle that a tray keeps, which is its channel's value in that cycle. It is 0 if the machine is no tray or doesn't keep the value.
 pub fn tray_value<B: Bridge + Send + Drop, Z: Streams>(
     net: &Net<Node<'_, B>, Z>,
     machine: u32,
@@ -25,11 +24,10 @@ pub fn tray_value<B: Bridge + Send + Drop, Z: Streams>(
     net.host(machine).value(cycle).unwrap_or(0)
 }
 
-/// Writes the values of a cycle that the trays keep, in the order of their numbers, of which the first is `first`. In a network of a plan
-/// they are those of the out-signals of the plan's circuit in its run.
+/// Writes the values of a cycle that the trays keep, in the order of their numbers, starting at `first`. In a network of a plan they are the values
+/// of the out-signals of the plan's circuit in its run.
 ///
-/// The network should stand at the end of the cycle's window, which is no longer than what a tray keeps, and there should
-/// be a place for each tray.
+/// The network should be at the end of the cycle's window, and the window no longer than a tray keeps values. There should be a place for each tray.
 pub fn output_values<B: Bridge + Send + Drop, Z: Streams>(
     net: &Net<Node<'_, B>, Z>,
     first: usize,

@@ -19,7 +19,7 @@ use gg_ring::Ring;
 use std::alloc::Global;
 use std::thread::Threads;
 
-// Hands over the row of a cycle, from a network that stands at the end of the cycle's window. Returns whether to go on.
+// Hands over the row of a cycle, from a network that is at the end of the cycle's window. Returns whether to go on.
 fn take_cycle<B: Bridge + Send + Drop, Z: Streams, T, W: Rows<T>>(
     net: &Net<Node<'_, B>, Z>,
     first: usize,
@@ -38,7 +38,7 @@ fn take_cycle<B: Bridge + Send + Drop, Z: Streams, T, W: Rows<T>>(
     rows.take(taken, cycle, outs)
 }
 
-// Hands over the rows of a window, from a network that stands at its end. Returns whether to go on.
+// Hands over the rows of a window, from a network that is at its end. Returns whether to go on.
 fn take_window<B: Bridge + Send + Drop, Z: Streams, T, W: Rows<T>>(
     net: &Net<Node<'_, B>, Z>,
     first: usize,
@@ -64,7 +64,7 @@ fn take_window<B: Bridge + Send + Drop, Z: Streams, T, W: Rows<T>>(
     Ok(true)
 }
 
-// An order with room for the steps of a cycle; without memory for it one that remembers nothing.
+// An order with room for the steps of a cycle, or without memory for it an order that never notes a step.
 fn order_of<H: Host, Z: Streams>(alloc: Global, net: &Net<H, Z>) -> Order {
     match Order::new(alloc, net) {
         Ok(order) => order,
@@ -72,15 +72,28 @@ fn order_of<H: Host, Z: Streams>(alloc: Global, net: &Net<H, Z>) -> Order {
     }
 }
 
-/// Runs a network from its first cycle on, which is `begin`, window by window: by this many workers, and then by steps in the order of the
-/// network. `work` is how much it does in a cycle: where that is little, only the first window has workers. After each window it hands over
-/// the rows of its cycles: the values of the out-signals of the plan's circuit, which the trays keep, from number `first` on. It ends with the
-/// network, or with a row after which it isn't to go on; no window begins then. Returns the network, and whether all rows were taken. If
-/// they were, all machines stand at the network's end; otherwise they stand at the end of the window of the last row.
+/// Runs a network from its first cycle, `begin`, window by window: by this many workers, and then by steps in the order of the network. `work` is its
+/// work in a cycle: if it is little, only the first window has workers. After each window it hands over the rows of its cycles: the values of the
+/// out-signals of the plan's circuit, which the trays keep, starting at number `first`. It ends with the network, or with a row after which it isn't
+/// to go on; no window begins then. Returns the network, and whether all rows were taken. If they were, all machines are at the network's end.
+/// Otherwise they are at the end of the window of the last row.
 ///
 /// # Errors
 ///
 /// Returns why a row couldn't be taken, and `NoMemory` if an allocation fails.
+///
+/// # Examples
+///
+/// The network has 3,000 cycles to do, and its two trays are machines 5 and 6. `rows` counts the rows in `taken`, and goes on after each.
+///
+/// ```text
+/// let mut outs = [0, 0];
+/// let mut taken = 0;
+/// let (net, all) = run_rows(&rt, alloc, net, 0, 2, work, 5, &mut outs, &rows, &mut taken, &gate)?;
+/// // all is true, taken is 3000, and all machines are in cycle 3000.
+/// // The windows were the cycles 0 to 1023, 1024 to 2047, and 2048 to 2999.
+/// // If `rows` hadn't gone on after the row of cycle 1500: all is false, taken is 1501, and all machines are in cycle 2048.
+/// ```
 pub fn run_rows<
     'n,
     R: Threads + Sync,

@@ -17,7 +17,7 @@ use gg_trace::acts;
 use std::alloc::Global;
 use std::thread::Threads;
 
-// Looks at rows for a stop that ends a run of `cycles` cycles. The conditions of the stops are behind the first `shown` values of a row.
+// Looks at rows for a stop that ends a run of `cycles` cycles. The conditions of the stops are the values after the first `shown` of a row.
 #[derive(Drop)]
 struct StopWatch<'s> {
     stops: &'s [Ratio],
@@ -39,10 +39,10 @@ impl<'s> Rows<u64> for StopWatch<'s> {
     }
 }
 
-/// Runs a network of a plan from its first cycle, 0, to its end, a window at a time: by this many workers, and then by steps in the fixed
-/// order. Looks at the conditions of the stops, which are behind the first `shown` of the out-signals, one for each of the trays; `stops` has the ratios of their
-/// clocks. Returns the network, and the first cycle in which a stop ends a run of `cycles` cycles: one acts, and the cycle isn't the last
-/// one. If there is none, all machines stand at the network's end.
+/// Runs a network of a plan from its first cycle, 0, to its end, a window at a time: by this many workers, and then by steps in the fixed order.
+/// Looks at the conditions of the stops. They are the out-signals after the first `shown`, and there is an out-signal for each of the trays; `stops`
+/// has the ratios of their clocks. Returns the network, and the first cycle where a stop ends a run of `cycles` cycles: one acts, and the cycle isn't
+/// the last one. If there is none, all machines are at the network's end.
 ///
 /// # Errors
 ///

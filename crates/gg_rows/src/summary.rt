@@ -5,7 +5,7 @@ ghost use Rattle.gg_rows.specs.SummaryText.{fold_line, last_line, network_line, 
 use crate::digits::eight_digits;
 use std::alloc::{AllocError, Global};
 
-/// The line that says which demo it is: its seed, its size and its number of cycles.
+/// The line with a demo's seed, its size and its number of cycles.
 ///
 /// # Errors
 ///

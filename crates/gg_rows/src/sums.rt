@@ -22,7 +22,7 @@ use gg_trace::Trace;
 use std::alloc::{AllocError, Global};
 use std::thread::Threads;
 
-/// What the network of a plan tells.
+/// The sums of a plan's network.
 #[derive(Clone, Copy)]
 pub struct Sums {
     /// The number of its machines.
@@ -31,7 +31,7 @@ pub struct Sums {
     pub channels: u64,
     /// The number of steps from its opening to its end.
     pub steps: u64,
-    /// What is kept of the rows of the first two out-signals.
+    /// The fold of the rows of the first two out-signals.
     pub fold: Fold,
 }
 

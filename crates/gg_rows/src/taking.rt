@@ -1,16 +1,16 @@
-//! `Rows`: what is done with the rows of a run.
+//! `Rows`: an action on each row of a run.
 ghost use Rattle.std.specs.Prelude.{ℕ, ◌≤◌, List, Bool, Result, length};
 ghost use Rattle.gg_bits.specs.Limits.{cycle_limit};
 ghost use Rattle.gg_io.specs.declared.endings.Ending.{Ending};
 
 use gg_io::Ending;
 
-/// What is done with the rows of a run, one after another. Each row changes a value of type T, which holds what came of the rows so far.
+/// An action on each row of a run, one after another. Each row changes a value of type T, the result of the rows so far.
 pub trait Rows<T> {
-    // Whether it can take rows of so many values.
+    // Whether it can take rows of this many values.
     ghost can_take: { Self → ℕ → Type 0 };
 
-    // What the taking of a row does: the value before, the cycle, the row, the value after, and the answer.
+    // The taking of a row: the value before, the cycle, the row, the value after, and the answer.
     ghost takes: { Self → T → ℕ → List ℕ → T → Result Bool Ending → Type 0 };
 
     /// Takes the row of a cycle, which is at most 1,000,000. Returns whether to go on with the next one.

@@ -5,7 +5,7 @@ ghost use Rattle.gg_rows.specs.TraceText.{demo_trace, next_number, number_at, nu
 use crate::digits::eight_digits;
 use std::alloc::{AllocError, Global};
 
-// The number behind a number.
+// The number after a number.
 fn next_number(number: u32) -> u32
     ensures { result ≡ next_number number }
 {

@@ -1,4 +1,4 @@
-//! `Trays`: which machines of a plan are trays, and how much its network does in a cycle.
+//! `Trays`: the trays of a plan, and the work of its network in a cycle.
 ghost use Rattle.std.specs.Prelude.{◌≡◌, ◌≤◌, length};
 ghost use Rattle.std.specs.List.{prefix_len};
 ghost use Rattle.gg_rows.specs.inside.Trays.{is_inner, is_tray};
@@ -7,14 +7,14 @@ ghost use Rattle.gg_rows.specs.inside.RunPrinted.{IsFirstTray, IsTrayCount};
 use crate::effort::work_of;
 use gg_cut_plan::{Body, Machine, Plan};
 
-/// The trays of a plan: they stand one behind another.
+/// The trays of a plan: they come one after another.
 #[derive(Clone, Copy)]
 pub struct Trays {
     /// The number of the first one.
     pub first: usize,
     /// How many there are.
     pub count: usize,
-    /// How much the plan's network does in a cycle: its signals, and four times its channels.
+    /// The work of the plan's network in a cycle: its signals, and four times its channels.
     pub work: u64,
 }
 

@@ -15,8 +15,8 @@ use gg_workers::work;
 use std::alloc::{AllocError, Global};
 use std::thread::Threads;
 
-/// Where the window ends that begins at a cycle, if `end` cycles have to be done: 1,024 cycles on, as many as a tray keeps
-/// values, or at `end`.
+/// The end of the window that begins at a cycle, if `end` cycles have to be done: 1,024 cycles later, because a tray keeps that many values, or at
+/// `end`.
 pub fn window_end(begun: u64, end: u64) -> u64
     requires { begun ≤ end }
     ensures { result ≡ window_end begun end }
@@ -62,8 +62,8 @@ fn run_workers<R: Threads + Sync, H: Host, L: Link, Z: Streams, G: Gate + Sync>(
     work::<R, H, L, Z, G>(rt, home, alloc, net, workers, upto, order, gate)
 }
 
-/// Runs a network up to a cycle, the end of a window: by this many workers first, who go by an order that is remembered, and
-/// then cycle by cycle, by the same order, until all machines stand there. With no workers all steps are done so.
+/// Runs a network up to a cycle, the end of a window: by this many workers first, who go by the order, and then cycle by cycle, by the same order,
+/// until all machines are there. With no workers all steps are done cycle by cycle.
 ///
 /// # Errors
 ///

@@ -10,7 +10,7 @@ use gg_link::Full;
 use std::sync::Wait;
 
 impl<R: Wait + Copy> Ruled<R> {
-    // A queue that was full held the capacity, so all but these had been taken.
+    // Puts a value, or finds the queue full. Then it held its capacity of values, and all others had been taken.
     pub(crate) fn try_put(&self, seat: &mut PutSeat, value: u128) -> Result<(), Full>
         requires seat { IsPutSeatOf self.now seat.old }
         requires value { slice_get (view seat.old.pass).stream seat.old.puts ≡ Some value }
@@ -33,7 +33,7 @@ impl<R: Wait + Copy> Ruled<R> {
         }
     }
 
-    // A queue that was empty held nothing, so just as many had been put as taken.
+    // Takes a value, or finds the queue empty. Then all values that had been put had been taken.
     pub(crate) fn try_take(&self, seat: &mut TakeSeat) -> Option<u128>
         requires seat { IsTakeSeatOf self.now seat.old }
         ensures seat { IsTakeSeatOf self.now seat.new }

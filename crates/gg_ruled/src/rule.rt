@@ -1,11 +1,12 @@
-//! What a queue holds and its passes know, and the kinds of step that keep it so: a push, a pop, a split and a join.
+//! The items of a queue, the knowledge of its passes, and the kinds of step that keep the rule: a push, a pop, a split
+//! and a join.
 ghost use Rattle.std.specs.Prelude.{List, ℕ, []};
 
 use crossbeam_queue::protocol::{Join, Lesson, Outcome, Protocol, Split};
 use std::collections::LinkedList;
 use std::marker::{Brand, PhantomData};
 
-// What a pass knows. No value of it is made.
+// The knowledge of a pass. No value of it is made.
 pub(crate) struct View {
     // whether it may put, and whether it may take
     pub(crate) puts: bool,
@@ -14,7 +15,7 @@ pub(crate) struct View {
     pub(crate) capacity: u64,
     pub(crate) put: u64,
     pub(crate) taken: u64,
-    // how many puts the seat that takes was told of when it was made
+    // how many puts the seat that takes knew of when it was made
     pub(crate) known: u64,
 }
 
@@ -56,7 +57,7 @@ impl<K: Chosen> Split<View> for OpenSeats<K> {
     ghost right = { λ v. taker K.chosen K.places 0 0 };
 }
 
-// The whole view is split in two, and the seat that takes knows what was put.
+// The whole view is split in two, and the seat that takes knows all puts so far.
 pub(crate) struct SplitSeats;
 
 impl Split<View> for SplitSeats {

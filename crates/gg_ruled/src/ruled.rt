@@ -7,7 +7,7 @@ use crate::rule::{QueueRule, View};
 use crossbeam_queue::{Pass, RuledArrayQueue};
 use std::sync::Wait;
 
-/// A link over a bounded queue, and the handle with which its calls wait.
+/// A link over a bounded queue. Its calls wait by the handle.
 #[derive(Drop)]
 pub struct Ruled<R: Wait + Copy> {
     pub(crate) queue: RuledArrayQueue<u128, View, QueueRule>,

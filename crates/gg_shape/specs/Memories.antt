@@ -15,7 +15,7 @@ use Rattle.gg_shape.specs.declared.fault.MemoryKey.{MemoryKey}
 use Rattle.gg_shape.specs.declared.fault.MemoryKey.TheVariants.{DataType, Depth, ReadLatency, WriteLatency, ReadUnderWrite}
 use Rattle.gg_shape.specs.Faults.{fault_if}
 
--- the number of a field, if it has this key; a type and a word have none, 0 stands for them
+-- the number of a field, if it has this key; 0 for a type and a word, which have no number
 abbrev pub given_by : MemoryKey → fields.MemoryField → List ℕ
 given_by DataType (field.DataType ty) = 0 ∷ []
 given_by Depth (field.Depth n) = n ∷ []
@@ -60,7 +60,7 @@ wrong_times line fs = wrong_field line fs ReadLatency ++ (wrong_field line fs Wr
 abbrev pub wrong_fields : ℕ → List Field → List Fault
 wrong_fields line fs = wrong_field line fs DataType ++ (wrong_field line fs Depth ++ wrong_times line fs)
 
--- those of a statement, which has some only if it declares a memory
+-- the wrong fields of a statement; only a memory has some
 abbrev pub wrong_in_kind : ℕ → statements.StmtKind → List Fault
 wrong_in_kind line (kinds.Memory name fs) = wrong_fields line fs
 wrong_in_kind line (kinds.Wire name ty) = []
@@ -73,14 +73,14 @@ wrong_in_kind line kinds.Skip = []
 wrong_in_kind line (kinds.Stop clock condition code label) = []
 wrong_in_kind line (kinds.Report word arguments label) = []
 
--- the same of a statement with its line
+-- `wrong_in_kind` for a statement with its line
 abbrev pub wrong_by : Stmt → List Fault
 wrong_by s = wrong_in_kind s.line s.kind
 
--- those of all memories of a module, in the order of the text
+-- the wrong fields of all memories of a module, in the order of the text
 abbrev pub wrong_in_module : ModuleTree → List Fault
 wrong_in_module m = flat_map wrong_by m.statements
 
--- at each memory: its wrong fields
+-- the wrong fields of all memories of a circuit, in the order of the text
 abbrev pub memory_faults : CircuitTree → List Fault
 memory_faults circuit = flat_map wrong_in_module circuit.modules

@@ -7,11 +7,11 @@ use Rattle.gg_shape.specs.declared.fault.Fault.{Fault}
 use Rattle.gg_shape.specs.declared.fault.Fault.TheVariants.{ModuleRing}
 use Rattle.gg_graph.specs.Graph.{IsRing}
 
--- distinct modules, by their places, each of which has an instance of the next, the last of the first
+-- distinct modules, by their places; each has an instance of the next, and the last of the first
 abbrev pub IsRingOf : CircuitTree → List ℕ → Type 0
 IsRingOf circuit ring = IsRing (Holds circuit.modules) (length circuit.modules) ring
 
--- there are no such modules
+-- no modules have instances of each other in a ring
 abbrev pub HasNoRing : CircuitTree → Type 0
 HasNoRing circuit = (ring : List ℕ) → ¬ IsRingOf circuit ring
 

@@ -44,15 +44,15 @@ repeated_names circuit = map repeated_name (repetitions circuit)
 
 -- ---- F3
 
--- a reference that names nothing that has a value
+-- F3 if a reference names nothing that has a value
 abbrev pub unknown_reference : List (Reference × Role) → ℕ → Reference → List Fault
 unknown_reference scope line r = fault_if (not (has_value (meaning_of scope r))) (UnknownName line (written r))
 
--- a module of an instance that doesn't exist
+-- F3 if the module of an instance doesn't exist
 abbrev pub unknown_module : List ModuleTree → ℕ → List ℕ → List Fault
 unknown_module modules line name = fault_if (not (is_some (module_named name modules))) (UnknownName line name)
 
--- the references of an expression, from left to right
+-- the unknown references of an expression, from left to right
 abbrev pub unknown_in : List (Reference × Role) → ℕ → Term → List Fault
 unknown_in scope line (NamedTerm r) = unknown_reference scope line r
 unknown_in scope line (ConstantTerm l) = []
@@ -61,20 +61,20 @@ unknown_in scope line (BinaryTerm o a b) = unknown_in scope line a ++ unknown_in
 unknown_in scope line (FixedTerm o a n m) = unknown_in scope line a
 unknown_in scope line (MuxTerm c a b) = unknown_in scope line c ++ (unknown_in scope line a ++ unknown_in scope line b)
 
--- those of the expressions among these arguments; a text has none
+-- the unknown references of the expressions among these arguments; a text has none
 abbrev pub unknown_in_arguments : List (Reference × Role) → ℕ → List Argument → List Fault
 unknown_in_arguments scope line [] = []
 unknown_in_arguments scope line (Value e ∷ rest) = unknown_in scope line e ++ unknown_in_arguments scope line rest
 unknown_in_arguments scope line (Text t ∷ rest) = unknown_in_arguments scope line rest
 
--- those of a reset, on the reset's line: in its condition, then in its value
+-- the unknown references of a reset, on the reset's line: in its condition, then in its value
 abbrev pub unknown_in_reset : List (Reference × Role) → Option Reset → List Fault
 unknown_in_reset scope None = []
 unknown_in_reset scope (Some reset) =
     unknown_in scope reset.line reset.condition ++ unknown_in scope reset.line reset.init
 
--- A statement's references, from left to right, in the scope of what is declared before it. In its own reset a register
--- is declared too.
+-- The unknown names of a statement, from left to right, in the scope of what is declared before it. In its own reset a register is declared
+-- too.
 abbrev pub unknown_in_kind : List ModuleTree → List (Reference × Role) → ℕ → statements.StmtKind → List Fault
 unknown_in_kind modules scope line (Wire name ty) = []
 unknown_in_kind modules scope line (Node name value) = unknown_in scope line value
@@ -89,7 +89,7 @@ unknown_in_kind modules scope line (Stop clock condition code label) =
     unknown_in scope line clock ++ unknown_in scope line condition
 unknown_in_kind modules scope line (Report word arguments label) = unknown_in_arguments scope line arguments
 
--- the same of a statement, after the module's ports and the statements before it
+-- the unknown names of a statement, after the module's ports and the statements before it
 abbrev pub unknown_by : List ModuleTree → List Port → List Stmt → Stmt → List Fault
 unknown_by modules ports before s = unknown_in_kind modules (scope_after modules ports before) s.line s.kind
 
@@ -99,7 +99,7 @@ unknown_names modules m = along (unknown_by modules m.ports) m.statements
 
 -- ---- F4
 
--- some statement connects it
+-- one of the statements connects the reference
 abbrev pub is_connected : List Stmt → Reference → Bool
 is_connected statements r = list_any (connects r) statements
 
@@ -109,7 +109,7 @@ second_to scope before line None = []
 second_to scope before line (Some r) =
     fault_if (is_sink (meaning_of scope r) && is_connected before r) (SecondConnection line (written r))
 
--- the same of the reference that a statement connects
+-- `second_to` for the reference that a statement connects
 abbrev pub second_by : List (Reference × Role) → List Stmt → Stmt → List Fault
 second_by scope before s = second_to scope before s.line (connected_by s)
 
@@ -127,12 +127,12 @@ unconnected_entry connected line e = fault_if (needs_connection e.1 && not (conn
 abbrev pub unconnected_port : (Reference → Bool) → Port → List Fault
 unconnected_port connected port = unconnected_entry connected port.line (entry_by_port port)
 
--- the names of one statement in the order in which it declares them: an instance's inputs in the order of its module's
--- ports, a memory's fields by readers, then writers
+-- the unconnected names of one statement, in the order of its declarations: an instance's inputs in the order of its module's ports, a
+-- memory's fields by readers, then writers
 abbrev pub unconnected_by : List ModuleTree → (Reference → Bool) → Stmt → List Fault
 unconnected_by modules connected s = flat_map (unconnected_entry connected s.line) (entries_by modules s)
 
--- all of a module: its ports, then what its statements declare
+-- the unconnected names of a module: its ports, then what its statements declare
 abbrev pub unconnected_among : List ModuleTree → (Reference → Bool) → ModuleTree → List Fault
 unconnected_among modules connected m =
     flat_map (unconnected_port connected) m.ports ++ flat_map (unconnected_by modules connected) m.statements
@@ -148,7 +148,7 @@ abbrev pub source_to : List (Reference × Role) → ℕ → Option Reference →
 source_to scope line None = []
 source_to scope line (Some r) = fault_if (is_source (meaning_of scope r)) (ConnectedSource line (written r))
 
--- the same of the reference that a statement connects
+-- `source_to` for the reference that a statement connects
 abbrev pub source_by : List (Reference × Role) → Stmt → List Fault
 source_by scope s = source_to scope s.line (connected_by s)
 
@@ -162,7 +162,7 @@ connected_sources modules m = flat_map (source_by (scope_of modules m)) m.statem
 abbrev pub in_modules : (List ModuleTree → ModuleTree → List Fault) → CircuitTree → List Fault
 in_modules faults circuit = flat_map (faults circuit.modules) circuit.modules
 
--- by number and then in the order of the text
+-- the faults F1 to F6, by number and then in the order of the text
 abbrev pub named_faults : CircuitTree → List Fault
 named_faults circuit =
     missing_top circuit

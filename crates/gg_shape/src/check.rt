@@ -35,11 +35,11 @@ pub fn shape(alloc: Global, circuit: &Circuit) -> Result<(), ShapeFault>
     }
 }
 
-/// The same as `shape`. If the circuit has none of these faults, the namespace is returned.
+/// Checks a circuit as `shape` does, and returns its namespace if it has none of these faults.
 ///
 /// # Errors
 ///
-/// The same as those of `shape`.
+/// Returns the same errors as `shape`.
 pub fn shaped<'a>(alloc: Global, circuit: &'a Circuit) -> Result<Namespace<'a>, ShapeFault>
     ensures answers { AnswersShape circuit.now result }
     ensures names { IfOk result (λ names. names ≡ circuit.now) }

@@ -13,7 +13,7 @@ use gg_ast::Stmt;
 use gg_shape_names::{Namespace, connection, is_sink, is_source, written};
 use std::alloc::{AllocError, Global};
 
-// Refuses the first connection of the circuit whose sink is already connected. If there is none, returns what is
+// Refuses the first connection of the circuit to a sink that is already connected. If there is none, returns what is
 // connected in each module.
 pub(crate) fn check_second<'a>(
     alloc: Global,
@@ -45,7 +45,7 @@ fn connected_in<'a>(
     connected_by(alloc, names, number, this.statements())
 }
 
-// The same for the statements of a module.
+// Refuses the first second connection by the statements of a module. If there is none, returns what they connect.
 fn connected_by<'a>(
     alloc: Global,
     names: &Namespace<'a>,

@@ -47,7 +47,7 @@ pub enum Fault {
     },
     /// F7: modules have instances of each other in a ring.
     ModuleRing {
-        /// The modules, each of which has an instance of the next; the first is repeated at the end.
+        /// The modules. Each has an instance of the next, and the first is repeated at the end.
         modules: Names,
     },
     /// F8: a field of a memory is missing, comes twice or is out of range.
@@ -69,7 +69,7 @@ pub enum Fault {
     WrongWidth {
         /// The line of the type or the operation.
         line: u64,
-        /// The width in bits. 4,294,967,295 stands for any greater width.
+        /// The width in bits. A width above 4,294,967,295 is reported as that number.
         width: u32,
     },
     /// F11: a parameter of an operation is out of range.
@@ -104,7 +104,7 @@ pub enum Fault {
     OverLimit {
         /// What is counted.
         limit: Limit,
-        /// The count. 18,446,744,073,709,551,615 stands for any greater count.
+        /// The count. A count above 18,446,744,073,709,551,615 is reported as that number.
         count: u64,
     },
     /// F16: signals read each other in a ring.

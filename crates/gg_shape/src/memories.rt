@@ -74,7 +74,7 @@ fn check_key(line: u64, fields: &[Field], key: MemoryKey) -> Result<(), CheckFau
     }
 }
 
-// How often a key comes, and with which number.
+// How often a key comes, and its number if it comes once.
 #[derive(Clone, Copy)]
 pub(crate) enum Given {
     // Not at all.
@@ -96,7 +96,7 @@ fn given_for(key: MemoryKey, fields: &[Field]) -> Given
     found
 }
 
-// The same after one more field.
+// How often a key comes after one more field.
 fn with(found: Given, number: Option<u32>) -> Given
     ensures { result ≡ with_value found (option_to_list number) }
 {

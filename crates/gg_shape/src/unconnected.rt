@@ -98,7 +98,7 @@ pub(crate) fn check_unconnected(
     check_modules(alloc, names, inputs.as_slice(), all)
 }
 
-// The input ports of all modules. So the check of an instance skips its outputs, which may be many.
+// The input ports of all modules. With these the check of an instance skips its outputs, which may be many.
 fn all_inputs<'a>(alloc: Global, circuit: &'a Circuit) -> Result<Vec<Inputs<'a>>, AllocError>
     ensures { IfOk result (λ all. all.items ≡ map inputs_of circuit.now.modules) }
 {

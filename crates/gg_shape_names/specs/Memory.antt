@@ -9,7 +9,7 @@ use Rattle.gg_shape_names.specs.declared.role.PortKind.TheVariants.{Reader, Writ
 use Rattle.gg_shape_names.specs.declared.role.PortField.{PortField}
 use Rattle.gg_shape_names.specs.declared.role.PortField.TheVariants.{Addr, En, Clk, Data, Mask}
 
--- the names of readers that a field gives; only `reader` gives some
+-- the names of readers in a field; only `reader` has some
 abbrev pub readers_in : fields.MemoryField → List (List ℕ)
 readers_in (Readers names) = names
 readers_in (Writers names) = []
@@ -19,7 +19,7 @@ readers_in (ReadLatency n) = []
 readers_in (WriteLatency n) = []
 readers_in (ReadUnderWrite word) = []
 
--- the names of writers that a field gives; only `writer` gives some
+-- the names of writers in a field; only `writer` has some
 abbrev pub writers_in : fields.MemoryField → List (List ℕ)
 writers_in (Readers names) = []
 writers_in (Writers names) = names
@@ -39,7 +39,7 @@ memory_ports fs =
     map (as_port Reader) (flat_map (λ (f : Field). readers_in f.kind) fs)
     ++ map (as_port Writer) (flat_map (λ (f : Field). writers_in f.kind) fs)
 
--- the fields that a reader has, and those that a writer has, in this order
+-- the fields of a reader, and of a writer, in this order
 abbrev pub port_fields : PortKind → List PortField
 port_fields Reader = Addr ∷ (En ∷ (Clk ∷ (Data ∷ [])))
 port_fields Writer = Addr ∷ (En ∷ (Clk ∷ (Data ∷ (Mask ∷ []))))

@@ -1,5 +1,5 @@
--- Which modules have instances of which (FIRRTL Specification, "Instances": a module may not have an instance of
--- itself, directly or through others). Modules are identified by their places in the circuit, counted from 0.
+-- The instances that modules have of each other (FIRRTL Specification, "Instances": a module may not have an instance of itself, directly
+-- or through others). Modules are identified by their places in the circuit, counted from 0.
 pub use Rattle.gg_ast.specs.Tree.{module_at}
 use Rattle.std.specs.Prelude.{ℕ, List, [], Contains, flat_map, option_to_list}
 use Rattle.gg_ast.specs.Places.{place_of}
@@ -21,7 +21,7 @@ held_by_kind modules kinds.Skip = []
 held_by_kind modules (kinds.Stop clock condition code label) = []
 held_by_kind modules (kinds.Report word arguments label) = []
 
--- the same of a statement with its line
+-- `held_by_kind` for a statement with its line
 abbrev pub held_by : List ModuleTree → Stmt → List ℕ
 held_by modules s = held_by_kind modules s.kind
 

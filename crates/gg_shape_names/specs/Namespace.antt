@@ -54,7 +54,7 @@ port_field memory port kind field = (FieldOf memory port (field_name field), Mem
 abbrev pub port_entries : List ℕ → List ℕ × PortKind → List (Reference × Role)
 port_entries memory p = map (port_field memory p.0 p.1) (port_fields p.1)
 
--- the fields of all ports of a memory: those of the readers, then those of the writers
+-- the fields of all ports of a memory: the readers' fields, then the writers'
 abbrev pub memory_entries : List ℕ → List Field → List (Reference × Role)
 memory_entries memory fields = flat_map (port_entries memory) (memory_ports fields)
 
@@ -76,7 +76,7 @@ entries_by_kind modules kinds.Skip = []
 entries_by_kind modules (kinds.Stop clock condition code label) = []
 entries_by_kind modules (kinds.Report word arguments label) = []
 
--- the same of a statement with its line
+-- `entries_by_kind` for a statement with its line
 abbrev pub entries_by : List ModuleTree → Stmt → List (Reference × Role)
 entries_by modules s = entries_by_kind modules s.kind
 
@@ -92,7 +92,7 @@ scope_of modules m = scope_after modules m.ports m.statements
 abbrev pub meaning_of : List (Reference × Role) → Reference → Option Role
 meaning_of scope r = entry_of r scope
 
--- ---- declared names alone
+-- ---- declared names only
 
 -- the name that a statement declares, if it declares one
 abbrev pub name_by_kind : statements.StmtKind → List (List ℕ)
@@ -107,7 +107,7 @@ name_by_kind kinds.Skip = []
 name_by_kind (kinds.Stop clock condition code label) = []
 name_by_kind (kinds.Report word arguments label) = []
 
--- the same of a statement with its line
+-- `name_by_kind` for a statement with its line
 abbrev pub name_by : Stmt → List (List ℕ)
 name_by s = name_by_kind s.kind
 
@@ -191,7 +191,7 @@ connected_by_kind kinds.Skip = None
 connected_by_kind (kinds.Stop clock condition code label) = None
 connected_by_kind (kinds.Report word arguments label) = None
 
--- the same of a statement with its line
+-- `connected_by_kind` for a statement with its line
 abbrev pub connected_by : Stmt → Option Reference
 connected_by s = connected_by_kind s.kind
 

@@ -20,13 +20,13 @@ abbrev pub repetition_if : Bool → ℕ → List ℕ → List Repetition
 repetition_if true line name = record { line = line; name = name } ∷ []
 repetition_if false line name = []
 
--- a name on this line that is among those before it
+-- a name on this line that is among the names before it
 abbrev pub repeated_in : List (List ℕ) → ℕ → List ℕ → List Repetition
 repeated_in before line name = repetition_if (list_any (bytes_eq name) before) line name
 
 -- ---- the ports of a memory: readers and writers have one namespace
 
--- the names of ports that a field gives, of readers or of writers
+-- the names of ports in a field, of readers or of writers
 abbrev pub ports_in_field : fields.MemoryField → List (List ℕ)
 ports_in_field (Readers names) = names
 ports_in_field (Writers names) = names

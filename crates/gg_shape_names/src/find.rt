@@ -55,7 +55,7 @@ pub(crate) fn role_before_in(
     }
 }
 
-// What a reference names whose first name has this declaration.
+// What a reference names if its first name has this declaration.
 fn role_through(
     modules: &[Module],
     tables: &[Table],

@@ -40,7 +40,7 @@ pub(crate) fn memory_ports<'a>(alloc: Global, fields: &'a [Field]) -> Result<Por
     Ok(ports)
 }
 
-// Adds the ports that a field names to those that the fields before it name.
+// Adds the ports that a field names to the ports of the fields before it.
 fn add_ports<'a>(ports: &mut Ports<'a>, field: &'a Field) -> Result<(), NamesFault>
     ensures tells { (before : List Fields) → HavePorts before ports.old.readers ports.old.writers → Tells (repeated_in_field before field.now) result }
     ensures ports { (before : List Fields) → HavePorts before ports.old.readers ports.old.writers → OnOk result (HavePorts (before ++ field.now ∷ []) ports.new.readers ports.new.writers) }

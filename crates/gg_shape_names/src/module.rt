@@ -50,7 +50,7 @@ fn declare_ports<'a>(
     Ok(())
 }
 
-// Declares the names of statements, after those of the ports.
+// Declares the names of statements, after the names of the ports.
 fn declare_statements<'a>(
     alloc: Global,
     table: &mut Table<'a>,

@@ -23,8 +23,8 @@ use gg_bits::Name;
 use std::alloc::{AllocError, Global};
 use std::marker::Model;
 
-/// The names of a circuit in which no name comes twice. It borrows the circuit, and its model is the circuit's tree:
-/// what contracts say of a module's names, they say of that tree.
+/// The names of a circuit without repeated names. It borrows the circuit, and its model is the circuit's tree:
+/// contracts define a module's names by that tree.
 ///
 /// Modules are identified by their places, counted from 0; there are fewer than 4,294,967,296.
 pub struct Namespace<'a> {
@@ -98,8 +98,8 @@ impl<'a> Namespace<'a> {
         self.tables[number as usize].len()
     }
 
-    /// The place of a name among those that a module declares, in the order of the file, counted from 0. None if the module
-    /// doesn't declare it.
+    /// The place of a name among the names that a module declares, in the order of the file, counted from 0. None if
+    /// the module doesn't declare it.
     pub fn place(&self, number: u32, name: &Name) -> Option<usize>
         requires { number < length self.now.modules }
         ensures { result ≡ place_of name.now (names_in (module_at self.now.modules number)) }

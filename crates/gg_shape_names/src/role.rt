@@ -5,7 +5,7 @@ ghost use Rattle.gg_shape_names.specs.Namespace.{role_of_port, role_of_instance_
 
 use gg_ast::{Direction, GroundType};
 
-/// What a name that is written in a module stands for (FIRRTL Specification, "Namespaces", "Flows").
+/// The meaning of a name that is written in a module (FIRRTL Specification, "Namespaces", "Flows").
 #[derive(Clone, Copy, PartialEq, Eq)]
 pub enum Role {
     /// An input port: a source.
@@ -152,7 +152,7 @@ pub fn needs_connection(role: Role) -> bool
     }
 }
 
-/// The fields of a port, in the order in which they are listed.
+/// The fields of a port, in this order: `addr`, `en`, `clk`, `data`, and for a writer `mask`.
 pub fn port_fields(kind: PortKind) -> &'static [PortField]
     ensures { result.now ≡ fields_of kind }
 {

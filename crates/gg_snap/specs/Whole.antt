@@ -16,7 +16,7 @@ use Rattle.gg_build.specs.StandsAt.{StandsAt}
 abbrev pub last_state : {plan : Plan} {start : Start} {columns : List (List ℕ)} {n : ℕ} {flow : Flow} → IsToRunFrom plan start columns n flow → State
 last_state {start = start} {n = n} run = state_at (plan_reference run.design run.request) start (drop start.cycle run.rows) (since start.cycle n)
 
--- The network of a plan of a design stands at the end of its run. The plan has no bridges.
+-- The network of a plan of a design is at the end of its run. The plan has no bridges.
 pub record HasEnded (plan : Plan) (design : Ordered) (start : Start) (columns : List (List ℕ)) (n : ℕ) (flow : Flow) (net : Network) : Type 0 where
   pub run : IsToRunFrom plan start columns n flow
   pub of_design : run.design ≡ design

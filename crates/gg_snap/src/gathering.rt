@@ -19,8 +19,8 @@ use gg_net::Net;
 use gg_order::State;
 use std::alloc::{AllocError, Global};
 
-// The state of a thread's machine, if it runs a piece. A bridge's host can't tell its state: the network of a plan without bridges has no
-// such host.
+// The state of a thread's machine, if it runs a piece. A bridge's host doesn't give its state; the network of a plan without bridges has no such
+// host.
 fn state_of<'n, B: Bridge + Drop>(
     node: &'n Node<'_, B>,
     thread: u32,
@@ -33,12 +33,12 @@ fn state_of<'n, B: Bridge + Drop>(
         Node::Shared(host) => Ok(Some(host.state(thread))),
         Node::Memory(host) => Ok(Some(host.state(thread))),
         Node::Source(host) => {
-            // for the invariant alone
+            // for the invariant only
             let _ = host.column();
             Ok(None)
         }
         Node::Tray(host) => {
-            // for the invariant alone
+            // for the invariant only
             let _ = host.value(0);
             Ok(None)
         }
@@ -122,7 +122,7 @@ fn newest_tokens<B: Bridge + Send + Drop, Z: Streams>(
     Ok(tokens)
 }
 
-// What the machines of a plan have of a state.
+// The parts of a state that the machines of a plan have.
 fn gather_machines<B: Bridge + Send + Drop, Z: Streams>(
     alloc: Global,
     net: &Net<Node<'_, B>, Z>,
@@ -142,8 +142,8 @@ fn gather_machines<B: Bridge + Send + Drop, Z: Streams>(
     Ok(draft)
 }
 
-// The state of the circuit that a plan's network computes, from a network in which all machines are in their parts of it, and the
-// token of each pipe is the last one that entered its channel. `piece` is the plan's circuit, without the pipes.
+// The state of the circuit that a plan's network computes, from a network with all machines in their parts of it. The token of each pipe is the last
+// one that entered its channel. `piece` is the plan's circuit, without the pipes.
 //
 // # Errors
 //

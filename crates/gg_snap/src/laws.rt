@@ -17,8 +17,8 @@ pub fn plans_have_all()
     ensures memories { MemoriesAreKept }
 {}
 
-/// At the end of a run each machine of the network of a plan without bridges is in its part of the state of the reference circuit, and the channel of each pipe
-/// has one token, what the pipe's register holds. So the network has all of that state.
+/// At the end of a run each machine of the network of a plan without bridges is in its part of the state of the reference circuit. The channel of
+/// each pipe has one token, the value of the pipe's register. Therefore the network has all of that state.
 pub fn networks_hold_states()
     ensures inside { MachinesAreInTheState }
     ensures all { TheWholeStateIsThere }

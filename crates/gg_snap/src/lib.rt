@@ -1,7 +1,7 @@
 //! Snapshots of a plan's network.
 //!
-//! A snapshot has the state of a circuit before a cycle. The circuit is the reference circuit of a plan (gg_cut_reference): the
-//! design's circuit with a register for each pipe. So it doesn't depend on units, hosts or capacities. The crate promises:
+//! A snapshot has the state of a circuit before a cycle. The circuit is the reference circuit of a plan (gg_cut_reference): the design's circuit with
+//! a register for each pipe. Therefore it doesn't depend on units, hosts or capacities. The crate promises:
 //!
 //! - [`snapshot`] gathers the state of the reference circuit from a network at the end of its run: from each machine its part, and from the
 //!   queue of each channel with a pipe the pipe's token. It is the state of the run after the network's last cycle. The plan has no

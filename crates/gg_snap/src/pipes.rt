@@ -33,8 +33,8 @@ pub(crate) fn pipes_of(
     Ok(pipes)
 }
 
-// For each channel the token of its pipe, if it has one. `registers` are those of a state of the reference circuit: those of the design,
-// which has `held` of them, and behind them those of the pipes.
+// For each channel the token of its pipe, if it has one. `registers` are the registers of a state of the reference circuit: first the design's,
+// `held` of them, and then the pipes'.
 //
 // # Errors
 //
@@ -74,7 +74,7 @@ fn tokens_at(
     Ok(tokens)
 }
 
-// The values from a place on.
+// The values starting at a place.
 fn from_place(values: &[u128], place: usize) -> &[u128]
     requires { place ≤ length values.now }
     ensures { result.now ≡ drop place values.now }
@@ -82,7 +82,7 @@ fn from_place(values: &[u128], place: usize) -> &[u128]
     &values[place..]
 }
 
-// The value at a place; 0 behind the end.
+// The value at a place; 0 after the end.
 fn value_in(values: &[u128], place: usize) -> u128
     ensures { result ≡ value_at values.now place }
 {
@@ -112,7 +112,7 @@ fn fill(pipes: &mut [u128], channels: &[Channel], numbers: &[usize], tokens: &[u
     }
 }
 
-// Puts a value at a place, if that is asked.
+// Puts a value at a place, if `asked` is true.
 fn put_if(values: &mut [u128], place: usize, value: u128, asked: bool)
     requires { asked ≡ true → place < length values.old }
     ensures { values.new ≡ (if asked then slice_set values.old place value else values.old) }
@@ -124,7 +124,7 @@ fn put_if(values: &mut [u128], place: usize, value: u128, asked: bool)
 
 // ---- numbers
 
-// For each signal how many signals before it have a pipe, and behind them how many have one at all.
+// For each signal how many signals before it have a pipe, and at the end how many have one in all.
 fn numbers_of(alloc: Global, channels: &[Channel], signals: usize) -> Result<Vec<usize>, AllocError>
     requires known { All (λ channel. channel.signal < signals) channels.now }
     requires few { signals < 2 ^ 32 }
@@ -136,7 +136,7 @@ fn numbers_of(alloc: Global, channels: &[Channel], signals: usize) -> Result<Vec
     Ok(numbers)
 }
 
-// For each place, and for the end, how many marks stand before it.
+// For each place, and for the end, the number of marks before it.
 fn numbers_by(alloc: Global, marks: &[bool]) -> Result<Vec<usize>, AllocError>
     requires { length marks.now < 2 ^ 32 }
     ensures { IfOk result (λ numbers. numbers.items ≡ map (number_below (is_marked marks.now)) (range_with_len 0 (length marks.now + 1))) }
@@ -171,7 +171,7 @@ fn mark_piped(marks: &mut [bool], channels: &[Channel])
     }
 }
 
-// Marks a signal, if that is asked.
+// Marks a signal, if `asked` is true.
 fn mark_if(marks: &mut [bool], signal: u32, asked: bool)
     requires { signal < length marks.old }
     ensures { marks.new ≡ (if asked then slice_set marks.old signal true else marks.old) }

@@ -17,12 +17,12 @@ use gg_order::Design;
 use gg_trace::Trace;
 use std::alloc::{AllocError, Global};
 
-/// The snapshot of a plan's network that stands at the end of its run: the cycle there, and the state of the reference circuit. `plan` is a
-/// plan of `design` without bridges, and `reference` has the reference circuit of the plan.
+/// The snapshot of a plan's network at the end of its run: the cycle there, and the state of the reference circuit. `plan` is a plan of `design`
+/// without bridges, and `reference` has the reference circuit of the plan.
 ///
 /// # Errors
 ///
-/// Returns `AllocError` if an allocation fails, or if a bridge's host has one of the machines: a bridge doesn't tell its state. The network
+/// Returns `AllocError` if an allocation fails, or if a bridge's host has one of the machines, because a bridge doesn't give its state. The network
 /// that gg_build makes for a plan without bridges has no such host.
 pub fn snapshot<'a, B: Bridge + Send + Drop, Z: Streams>(
     alloc: Global,
@@ -47,8 +47,8 @@ pub fn snapshot<'a, B: Bridge + Send + Drop, Z: Streams>(
     Ok(Snap::new(reference, cycle, state))
 }
 
-/// The network of a plan that begins with a snapshot's cycle and state. `plan` is a plan of `design` without bridges, and the snapshot is
-/// one of the reference circuit of the plan. The sources give the columns of a trace, from the snapshot's cycle on, which should be at most the
+/// Builds the network of a plan that begins with a snapshot's cycle and state. `plan` is a plan of `design` without bridges, and the snapshot is one
+/// of the reference circuit of the plan. The sources give the columns of a trace, starting at the snapshot's cycle, which should be at most the
 /// number of the trace's rows.
 ///
 /// Allocates all the memory that the network will use.

@@ -5,8 +5,8 @@
 //! registers, read registers, pipes, memories.
 //!
 //! - `snap_text` writes the text of a snapshot.
-//! - `read_snap` reads it again. It refuses all else, and tells the first line that can't stand in any snapshot of the circuit.
-//! - `one_snapshot` is a law: a text is that of at most one cycle and one state, and then it has no fault. It has at most one first fault.
+//! - `read_snap` reads it again. It refuses any other text, with the first line that can't be in any snapshot of the circuit.
+//! - `one_snapshot` is a law: a text is the snapshot of at most one cycle and one state, and then it has no fault. It has at most one first fault.
 //! - `trees_can_save` is a law: which circuits can be saved.
 //! - `StateDraft` is a state that is put together from the states of parts.
 

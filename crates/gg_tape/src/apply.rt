@@ -1,4 +1,4 @@
-//! What an instruction gives.
+//! The values of instructions.
 ghost use Rattle.std.specs.Prelude.{◌≡◌, ◌<◌, Ok, length};
 ghost use Rattle.gg_bits.specs.Shape.{shape, Fits};
 ghost use Rattle.gg_bits.specs.ResultType.{type1, type2, type_const, shape_mux};
@@ -24,7 +24,7 @@ fn applied1(op: Op1, i: &Instruction, cells: &[u128]) -> u128
     }
 }
 
-// The same, whatever the kind is.
+// An operation on one value of either kind.
 #[inline(never)]
 fn any1(op: Op1, i: &Instruction, a: Val) -> u128
     requires first { Fits (small i.now.first_ty) a.0 }
@@ -55,7 +55,7 @@ fn applied2(op: Op2, i: &Instruction, cells: &[u128]) -> u128
     }
 }
 
-// The same on natural numbers.
+// An operation on two natural numbers.
 #[inline(always)]
 fn natural2(op: Op2, i: &Instruction, a: Val, b: Val) -> u128
     requires first { Fits (small i.now.first_ty) a.0 }
@@ -70,7 +70,7 @@ fn natural2(op: Op2, i: &Instruction, a: Val, b: Val) -> u128
     apply2_to(op, i.ty.ty(), first, a, second, b).0
 }
 
-// The same, whatever the kinds are.
+// An operation on two values of any kinds.
 #[inline(never)]
 fn any2(op: Op2, i: &Instruction, a: Val, b: Val) -> u128
     requires first { Fits (small i.now.first_ty) a.0 }
@@ -101,7 +101,7 @@ fn applied_const(op: OpN, i: &Instruction, cells: &[u128]) -> u128
     }
 }
 
-// The same, whatever the kind is.
+// An operation with two parameters on one value of either kind.
 #[inline(never)]
 fn any_const(op: OpN, i: &Instruction, a: Val) -> u128
     requires first { Fits (small i.now.first_ty) a.0 }
@@ -131,7 +131,7 @@ fn chosen(i: &Instruction, cells: &[u128]) -> u128
     mux(c, first, a, second, b).0
 }
 
-// What an instruction gives.
+// The value of an instruction.
 #[inline(always)]
 pub(crate) fn value_of(i: &Instruction, literals: &[u128], cells: &[u128]) -> u128
     requires { CanDo literals.now cells.now i.now i.now.operation }

@@ -1,4 +1,4 @@
-//! `Cells`: the values of signals, with scratch space behind them.
+//! `Cells`: the values of signals, followed by scratch space.
 ghost use Rattle.std.specs.Prelude.{◌≡◌, ◌<◌, List, length, replicate, slice_set, IfOk};
 ghost use Rattle.gg_bits.specs.Shape.{Fits};
 ghost use Rattle.gg_flat.specs.declared.line.Node.{Node};
@@ -69,7 +69,7 @@ impl Cells {
         self.all[signal as usize]
     }
 
-    /// Gives a signal this value.
+    /// Sets the value of a signal.
     #[inline(always)]
     pub fn set(&mut self, signal: u32, value: u128)
         requires { signal < length self.old.values }
@@ -78,7 +78,7 @@ impl Cells {
         self.all[signal as usize] = value;
     }
 
-    // The value of the line that these instructions tell.
+    // The value of the line that these instructions compute.
     #[inline(always)]
     pub(crate) fn run(&mut self, instructions: &[Instruction], literals: &[u128]) -> u128
         requires { (nodes : List Node) × IsTold nodes literals.now instructions.now self.old.values self.old.room }

@@ -1,4 +1,4 @@
-//! Instructions: what is done to one cell.
+//! Instructions: each writes one cell.
 use crate::small::Small;
 use gg_bits::{Op1, Op2, OpN};
 
@@ -19,7 +19,7 @@ pub(crate) enum Operation {
     Choose,
 }
 
-// What is done to one cell.
+// An instruction, which writes one cell.
 #[derive(Clone, Copy)]
 pub(crate) struct Instruction {
     // What is done.

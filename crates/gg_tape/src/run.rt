@@ -8,7 +8,7 @@ ghost use Rattle.gg_tape.specs.inside.Told.{CanRun};
 use crate::apply::value_of;
 use crate::instruction::Instruction;
 
-// The value of the line that the instructions tell. The cells of the signals stay as they are.
+// The value of the line that the instructions compute. The cells of the signals stay as they are.
 #[inline(always)]
 pub(crate) fn run(
     instructions: &[Instruction],

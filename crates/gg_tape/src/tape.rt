@@ -28,7 +28,7 @@ use std::alloc::{AllocError, Global};
 pub(crate) struct Stretch {
     // The first instruction.
     pub(crate) from: u32,
-    // Behind the last instruction. There are none if the driver isn't a line.
+    // The place after the last instruction. There are none if the driver isn't a line.
     pub(crate) to: u32,
     // The signal.
     pub(crate) signal: u32,
@@ -167,7 +167,7 @@ impl Tape {
 
     /// The value of the signal at this place of the tape's order, in this state and with these inputs.
     ///
-    /// State, inputs and cells are those of the circuit. Its driver can be evaluated, and there is room for its line.
+    /// State, inputs and cells belong to the circuit. Its driver can be evaluated, and there is room for its line.
     #[inline(always)]
     pub fn value(
         &self,
@@ -195,7 +195,7 @@ impl Tape {
         }
     }
 
-    // The value of the line that a stretch tells, as its signal gets it.
+    // The value of the line that a stretch computes, as its signal gets it.
     #[inline(always)]
     fn line_value(&self, stretch: &Stretch, cells: &mut Cells) -> u128
         requires { (line : List Node) × CanTell self.now stretch.now cells.old line }

@@ -155,7 +155,7 @@ fn tell_node(
     Ok(())
 }
 
-// Adds the instructions of a line: one for each node, but for references that aren't the last one.
+// Adds the instructions of a line: one for each node, except for references that aren't the last one.
 pub(crate) fn tell(
     nodes: &[Node],
     signals: u32,

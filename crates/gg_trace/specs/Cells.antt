@@ -3,7 +3,7 @@
 use Rattle.std.specs.Prelude.{ℕ, ◌^◌, ◌<◌, List}
 use Rattle.std.specs.Str.Parse.{IsNumeral, digits_value}
 
--- one hexadecimal digit or more, in either case, and nothing else
+-- one or more hexadecimal digits, in either case, and nothing more
 unfoldable pub IsHexadecimal : List ℕ → Type 0
 IsHexadecimal field = IsNumeral 16 field
 

@@ -25,8 +25,8 @@ fields_of_parts (x ∷ more) = x ∷ later_fields more
 unfoldable pub fields_of_text : List ℕ → List (List ℕ)
 fields_of_text text = fields_of_parts (slice_split is_blank text)
 
--- The fields of a line, divided by runs of one or more blanks. A run at either end has an empty field beside it. An
--- empty line has no fields.
+-- The fields of a line, divided by runs of one or more blanks. A run at either end has an empty field next to it. An empty line has no
+-- fields.
 unfoldable pub fields : List ℕ → List (List ℕ)
 fields [] = []
 fields (b ∷ line) = fields_of_text (b ∷ line)

@@ -29,7 +29,7 @@ values_text (p ∷ ports) (v ∷ values) = (32 ∷ hex_digits (digit_count p.ty.
 abbrev pub row_line : List Port → ℕ → List ℕ → List ℕ
 row_line ports cycle values = decimal cycle ++ values_text ports values ++ 10 ∷ []
 
--- The text of a trace that begins with a cycle: the header, then a row for each of n cycles from that one on.
+-- The text of a trace that begins with a cycle: the header, then a row for each of n cycles, starting at that cycle.
 abbrev pub text_from : List Port → List (List ℕ) → (begin n : ℕ) → List ℕ
 text_from ports columns begin zero = header_line ports
 text_from ports columns begin (suc n) = text_from ports columns begin n ++ row_line ports (begin + n) (row_of columns (begin + n))

@@ -76,17 +76,17 @@ pub record ReachesRow (ports : List Port) (bytes : List ℕ) (r : ℕ) : Type 0 
   pub header : IsHeader ports (header_of bytes)
   pub before : (q : ℕ) → q < r → IsRow ports (header_of bytes) q (row_at bytes q)
 
--- the same, and row r is below the limit
+-- `ReachesRow`, and row r is below the limit
 pub record ReachesCount (ports : List Port) (bytes : List ℕ) (r : ℕ) : Type 0 where
   pub row : ReachesRow ports bytes r
   pub limit : r < cycle_limit
 
--- the same, and row r has as many fields as the header
+-- `ReachesCount`, and row r has as many fields as the header
 pub record ReachesNumber (ports : List Port) (bytes : List ℕ) (r : ℕ) : Type 0 where
   pub limit : ReachesCount ports bytes r
   pub count : length (row_at bytes r) ≡ length (header_of bytes)
 
--- the same, and row r begins with its number, and each value before field f is right
+-- `ReachesNumber`, and row r begins with its number, and each value before field f is right
 pub record ReachesValue (ports : List Port) (bytes : List ℕ) (r f : ℕ) : Type 0 where
   pub count : ReachesNumber ports bytes r
   pub number : field (row_at bytes r) 0 ≡ decimal r

@@ -42,7 +42,7 @@ fn take_name(table: &PortTable, name: &[u8], named: &mut Vec<bool>) -> Option<us
 //
 // # Errors
 //
-// Returns `Heading` with the first field that isn't a port's name or repeats an earlier name. Else, if names are
+// Returns `Heading` with the first field that isn't a port's name or repeats an earlier name. Otherwise, if names are
 // missing, returns `Heading` with the header's count of fields. Returns `NoMemory` if an allocation fails.
 fn take_names(alloc: Global, table: &PortTable, rest: &mut Fields) -> Result<Vec<usize>, TraceFault>
     requires { HasDistinctNames table.now }
@@ -86,7 +86,7 @@ fn read_names(alloc: Global, ports: &[Port], rest: &mut Fields) -> Result<Vec<us
 // # Errors
 //
 // Returns `Heading` with the first field that is invalid at its position: the first field has to be `cycle`, and each
-// further one the name of a port that wasn't named before. Else, if names are missing, returns `Heading` with the
+// further one the name of a port that wasn't named before. Otherwise, if names are missing, returns `Heading` with the
 // count of fields. Returns `NoMemory` if an allocation fails.
 pub(crate) fn read_header(
     alloc: Global,

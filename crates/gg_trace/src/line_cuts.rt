@@ -1,4 +1,4 @@
-//! The lines of a text, from the first on.
+//! The lines of a text, from first to last.
 
 ghost use Rattle.std.specs.Prelude.{◌≡◌, ℕ, List, ◌∷◌, [], ◌<◌, ◌≤◌, ◌≢◌, MatchOption, length, slice_index};
 ghost use Rattle.std.specs.Str.Lines.{strip_carriage_return};

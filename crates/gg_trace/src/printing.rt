@@ -67,8 +67,7 @@ pub fn header_text(alloc: Global, ports: &Ports) -> Result<Name, AllocError>
 /// A row of a trace of these ports: the cycle in decimal, the values in lower-case hexadecimal with one space before
 /// each value, and a line feed. A value has a quarter of its port's width in digits, rounded up.
 ///
-/// Each value should be below 2 to its port's width. Of a greater value only its lowest digits are written, as many as
-/// the width has.
+/// Each value should be below 2 to its port's width. Of a greater value only that many of its lowest digits are written.
 ///
 /// # Errors
 ///

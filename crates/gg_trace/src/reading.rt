@@ -48,8 +48,8 @@ fn read_lines(alloc: Global, ports: &[Port], bytes: &[u8]) -> Result<Trace, Trac
 /// Reads an input trace: the columns that its text gives, one for each port, or its first fault.
 ///
 /// The header is `cycle` and the names of all ports, each once, in any order. Row r is r in decimal, followed by a
-/// value for each port in hexadecimal. The first fault is the header's fault, if it has one, else the first fault of
-/// the first faulty row. In a row the limit of rows comes first, then the count of fields, the row's number, and the
+/// value for each port in hexadecimal. The first fault is the header's fault, if it has one, otherwise the first fault
+/// of the first faulty row. In a row the limit of rows comes first, then the count of fields, the row's number, and the
 /// values from left to right.
 ///
 /// The ports have to have different names.

@@ -73,7 +73,7 @@ fn is_decimal(text: &[u8], number: u64) -> bool
     same_bytes(text, buffer.format(number).as_bytes())
 }
 
-// Writes the values of row `row`, whose text is `line`, each at its port's place: field g + 1 gives the value of port
+// Writes the values of row `row`, from its text `line`, each at its port's place: field g + 1 gives the value of port
 // `places[g]`.
 //
 // # Errors

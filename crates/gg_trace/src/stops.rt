@@ -17,8 +17,9 @@ fn has_edge(ratios: &[Ratio], k: usize, tick: u64) -> bool
     }
 }
 
-/// Whether a stop acts in the tick, which is at most 1,000,000, if the stops have these conditions: one of these is 1, and the stop's
-/// clock has an edge in the tick. `ratios` are those of the stops' clocks. Without them each clock has an edge in each tick.
+/// Whether a stop acts in the tick, which is at most 1,000,000, if the stops have these conditions: one of these is 1,
+/// and the stop's clock has an edge in the tick. `ratios` has the ratios of the stops' clocks. Without ratios each
+/// clock has an edge in each tick.
 pub fn acts(ratios: &[Ratio], tick: u64, conditions: &[u128]) -> bool
     requires { tick ≤ cycle_limit }
     ensures { result ≡ acts ratios.now tick conditions.now }
@@ -31,7 +32,7 @@ pub fn acts(ratios: &[Ratio], tick: u64, conditions: &[u128]) -> bool
     false
 }
 
-/// The rows that are written are one more than the first cycle that halts the run has before it: its row is the last one. If no
+/// The first cycle that halts the run has the last row: there is one row more than there are cycles before it. If no
 /// cycle halts the run, all rows are written.
 pub fn rows_end_at_halts()
     ensures first { (is_halt : ℕ → Bool) (n t : ℕ) → t < n → is_halt t ≡ true → ((k : ℕ) → k < t → is_halt k ≡ false) → row_count is_halt n ≡ suc t }

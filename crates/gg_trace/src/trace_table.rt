@@ -42,7 +42,7 @@ impl Model for Trace {
 }
 
 impl Trace {
-    // The trace whose rows, of `inputs` values each, are in `cells`, one after another.
+    // The trace of the values in `cells`, row by row, `inputs` values for each.
     pub(crate) fn of(rows: usize, inputs: usize, cells: Vec<u128>) -> Trace
         requires size { length cells.items ≡ rows * inputs }
         requires limit { rows ≤ cycle_limit }
@@ -70,7 +70,7 @@ impl Trace {
         self.inputs
     }
 
-    /// The first rows, as many as `rows` says. Does not allocate.
+    /// The first `rows` rows. Does not allocate.
     pub fn first_rows(self, rows: u64) -> Trace
         requires { rows ≤ self.rows }
         ensures { result ≡ record { rows = rows; columns = map (take rows) self.columns } }

@@ -40,7 +40,7 @@ ways_by kinds.Skip = []
 ways_by (kinds.Stop clock condition code label) = []
 ways_by (kinds.Report word arguments label) = []
 
--- the same of all names of a module: the ports, then what the statements declare
+-- all names of a module, each with where it gets a Clock from: the ports, then what the statements declare
 abbrev pub ways_of : ModuleTree → List (List ℕ × Way)
 ways_of m = map port_way m.ports ++ flat_map (λ s. ways_by s.kind) m.statements
 
@@ -137,7 +137,7 @@ leads_to_input m name = leads (ways_of m) m.statements name
 
 -- ---- which Clock input
 
--- whether a direction is that of an input
+-- whether a direction is an input's
 abbrev pub is_input : Direction → Bool
 is_input directions.Input = true
 is_input directions.Output = false
@@ -158,7 +158,7 @@ counted_clock count port = if is_clock_input port then suc count else count
 abbrev pub clock_number : ℕ → Port → Option ℕ
 clock_number count port = if is_clock_input port then Some count else None
 
--- the number of the first port of this name among the Clock inputs, which are counted from `count` on
+-- the number of the first port of this name among the Clock inputs; the first Clock input has the number `count`
 abbrev pub clock_from : ℕ → List Port → List ℕ → Option ℕ
 clock_from count [] name = None
 clock_from count (p ∷ ps) name = if bytes_eq name p.name then clock_number count p else clock_from (counted_clock count p) ps name
@@ -171,8 +171,8 @@ clock_named ports name = clock_from 0 ports name
 abbrev pub root_of : ModuleTree → List ℕ → List ℕ
 root_of m name = followed (ways_of m) m.statements (length (ways_of m)) name
 
--- The Clock input that a reference follows, by its number among those of the module; none if it follows none. A port of
--- an instance and a field of a memory follow none.
+-- The Clock input that a reference follows, by its number among the module's; none if it follows none. A port of an instance and a field of
+-- a memory follow none.
 abbrev pub clock_followed : ModuleTree → Reference → Option ℕ
 clock_followed m (references.Local name) = clock_named m.ports (root_of m name)
 clock_followed m (references.PortOf instance port) = None

@@ -7,7 +7,7 @@ use Rattle.gg_ast.specs.declared.statement.Field.{Field}
 use Rattle.gg_ast.specs.declared.statement.MemoryField.{MemoryField}
 use Rattle.gg_ast.specs.declared.statement.MemoryField.TheVariants as field
 
--- what the first field says that says something
+-- what the first field that has something says
 abbrev pub first_said : {A : Type 0} → (MemoryField → Option A) → List Field → Option A
 first_said said [] = None
 first_said said (f ∷ fs) = or_else (said f.kind) (first_said said fs)

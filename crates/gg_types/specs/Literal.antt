@@ -16,7 +16,7 @@ base Octal = 8
 base Decimal = 10
 base Hexadecimal = 16
 
--- how many are before the first that equals this one; all of them if none does
+-- how many elements are before the first that equals this one; all of them if none does
 abbrev pub count_before : ℕ → List ℕ → ℕ
 count_before c [] = zero
 count_before c (d ∷ ds) = if c == d then zero else suc (count_before c ds)
@@ -42,11 +42,10 @@ literal_number l = signed_number l.negative (digits_number (base l.radix) l.digi
 abbrev pub literal_value : Literal → ℕ
 literal_value l = pattern_of l.width (literal_number l)
 
--- Whether a pattern of this kind and width stands for the number. If one does, it is the number modulo 2 ^ w, so only
--- that one is tested.
+-- Whether a pattern of this kind and width has this number. If one does, it is the number modulo 2 ^ w, so only that one is tested.
 abbrev pub is_number_of : Kind → ℕ → ℤ → Bool
 is_number_of kind w z = int_eq (number_of kind w (pattern_of w z)) z
 
--- a literal fits its type if a pattern of the type stands for its number
+-- a literal fits its type if a pattern of the type has its number
 abbrev pub literal_fits : Literal → Bool
 literal_fits l = is_number_of l.kind l.width (literal_number l)

@@ -18,7 +18,7 @@ use Rattle.gg_flat.specs.declared.memory.Latency.TheVariants.{Zero, One}
 
 -- ---- types
 
--- a shape whose width is 1 to 128
+-- the shape if its width w is 1 to 128
 abbrev pub sized : ℕ → Shape → Option Shape
 sized w s = if nat_le 1 w && nat_le w 128 then Some s else None
 
@@ -30,7 +30,7 @@ type_shape Clock = None
 
 -- ---- fields
 
--- the read latency that a field gives; only `read-latency` gives one
+-- the read latency of a field; only `read-latency` has one
 abbrev pub latency_said : MemoryField → Option ℕ
 latency_said (field.DataType ty) = None
 latency_said (field.Depth n) = None

@@ -63,7 +63,7 @@ clock_faults traced line r None = []
 clock_faults traced line r (Some (Bits k w)) = []
 clock_faults traced line r (Some Clock) = fault_if (not (is_traced traced r)) (WrongClock line (written r))
 
--- a Clock that doesn't lead to one has no type
+-- the type of a reference that is read; a Clock that doesn't lead to an input port has none
 abbrev pub read_sort : (List ℕ → Bool) → Reference → Option Sort → Option Sort
 read_sort traced r None = None
 read_sort traced r (Some (Bits k w)) = Some (Bits k w)
@@ -77,14 +77,14 @@ result1 op None = None
 result1 op (Some (Bits k w)) = Some (op (of_kind k w))
 result1 op (Some Clock) = Some (Err bads.Kind)
 
--- the same of two operands: a Clock among them is a wrong kind, once both have a type
+-- `result1` for two operands: a Clock among them is a wrong kind, once both have a type
 abbrev pub result2 : (Shape → Shape → Result Shape Bad) → Option Sort → Option Sort → Option (Result Shape Bad)
 result2 op None b = None
 result2 op (Some (Bits k w)) b = result1 (op (of_kind k w)) b
 result2 op (Some Clock) None = None
 result2 op (Some Clock) (Some b) = Some (Err bads.Kind)
 
--- the same of three operands
+-- `result1` for three operands
 abbrev pub result3 : (Shape → Shape → Shape → Result Shape Bad) → Option Sort → Option Sort → Option Sort → Option (Result Shape Bad)
 result3 op None b c = None
 result3 op (Some (Bits k w)) b c = result2 (op (of_kind k w)) b c
@@ -116,7 +116,7 @@ result_sort (Some (Err bad)) = None
 abbrev pub is_width : ℕ → Bool
 is_width w = nat_le 1 w && nat_le w 128
 
--- a literal's width is wrong (F10), or else its number doesn't fit its width (F12)
+-- F10 if a literal's width is wrong, otherwise F12 if its number doesn't fit its width
 abbrev pub literal_faults : ℕ → Literal → List Fault
 literal_faults line l =
     if is_width l.width then fault_if (not (literal_fits l)) (LiteralTooLarge line) else WrongWidth line l.width ∷ []
@@ -143,7 +143,7 @@ clock_position line word None = []
 clock_position line word (Some (Bits k w)) = WrongKind line word ∷ []
 clock_position line word (Some Clock) = []
 
--- F9, if a condition's type isn't UInt<1>; nothing is said where it isn't known
+-- F9 if a condition's type isn't UInt<1>; no fault if it isn't known
 abbrev pub condition_position : ℕ → Word → Option Sort → List Fault
 condition_position line word None = []
 condition_position line word (Some (Bits k w)) = fault_if (not (is_condition (of_kind k w))) (WrongKind line word)
@@ -156,7 +156,7 @@ bits_connected line word sink_kind sink source_kind source =
     then fault_if (nat_lt sink source) (TooWide line source sink)
     else WrongKind line word ∷ []
 
--- F9 or F13, if a source of this type can't be connected to a sink of that type; nothing is said where one of the types isn't known
+-- F9 or F13 if a source of this type can't be connected to a sink of that type; no fault if one of the types isn't known
 abbrev pub connected : ℕ → Word → Option Sort → Option Sort → List Fault
 connected line word None source = []
 connected line word (Some sink) None = []
@@ -181,7 +181,7 @@ field_faults line (field.Readers names) = []
 field_faults line (field.Writers names) = []
 field_faults line (field.ReadUnderWrite word) = []
 
--- the same of all fields of a memory
+-- `field_faults` for all fields of a memory
 abbrev pub memory_type_faults : List Field → List Fault
 memory_type_faults fields = flat_map (λ f. field_faults f.line f.kind) fields
 
@@ -193,8 +193,8 @@ invalid_faults line r (Some Clock) = WrongClock line (written r) ∷ []
 
 -- ---- expressions
 
--- The module's names have these roles, and a test says which of them lead to an input port. What is known of names is
--- the type data of those that are declared so far.
+-- The module's names have these roles, and a test says which of them lead to an input port. What is known of names is the type data of the
+-- names declared so far.
 module _ (roles : List (Reference × Role)) (traced : List ℕ → Bool) where
   -- the type of an expression, if it and its parts have no fault
   abbrev pub sort_in : List (List ℕ × Option Own) → Term → Option Sort
@@ -205,7 +205,7 @@ module _ (roles : List (Reference × Role)) (traced : List ℕ → Bool) where
   sort_in known (FixedTerm o a n m) = result_sort (result1 (λ s. type_const o s n m) (sort_in known a))
   sort_in known (MuxTerm c a b) = result_sort (result3 type_mux (sort_in known c) (sort_in known a) (sort_in known b))
 
-  -- its faults: those of the operands from left to right, then that of the operation
+  -- the faults of an expression: of its operands from left to right, then of its operation
   abbrev pub faults_in : List (List ℕ × Option Own) → ℕ → Term → List Fault
   faults_in known line (NamedTerm r) = undeclared roles known line r ++ clock_faults traced line r (sort_of_reference roles known r)
   faults_in known line (ConstantTerm l) = literal_faults line l
@@ -223,17 +223,17 @@ module _ (roles : List (Reference × Role)) (traced : List ℕ → Bool) where
       ++ (faults_in known line b
       ++ result_faults line words.Mux (result3 type_mux (sort_in known c) (sort_in known a) (sort_in known b))))
 
-  -- the faults of an expression that stands in a clock position
+  -- the faults of an expression in a clock position
   abbrev pub clock_faults_in : List (List ℕ × Option Own) → ℕ → Word → Term → List Fault
   clock_faults_in known line word t = faults_in known line t ++ clock_position line word (sort_in known t)
 
-  -- the faults of an expression that stands as a condition
+  -- the faults of an expression as a condition
   abbrev pub condition_faults_in : List (List ℕ × Option Own) → ℕ → Word → Term → List Fault
   condition_faults_in known line word t = faults_in known line t ++ condition_position line word (sort_in known t)
 
   -- ---- statements
 
-  -- a reset's condition, and its initial value as connected to the register
+  -- the faults of a reset: of its condition, and of its initial value as connected to the register
   abbrev pub reset_faults : List (List ℕ × Option Own) → Option Sort → Option Reset → List Fault
   reset_faults known register None = []
   reset_faults known register (Some reset) =
@@ -241,14 +241,14 @@ module _ (roles : List (Reference × Role)) (traced : List ℕ → Bool) where
       ++ (faults_in known reset.line reset.init
       ++ connected reset.line words.Register register (sort_in known reset.init))
 
-  -- a register's type, its clock, and its reset, for which it is already declared
+  -- the faults of a register: of its type, of its clock, and of its reset, where the register is already declared
   abbrev pub register_faults : List (List ℕ × Option Own) → ℕ → List ℕ → GroundType → Term → Option Reset → List Fault
   register_faults known line name ty clock reset =
       stored_type_faults line words.Register ty
       ++ (clock_faults_in known line words.Register clock
       ++ reset_faults (known ++ (name, Some (own.Single (sort_of ty))) ∷ []) (Some (sort_of ty)) reset)
 
-  -- the two sides of a connection, and then whether they may be connected
+  -- the faults of a connection: of its two sides, and then whether they may be connected
   abbrev pub connection_faults : List (List ℕ × Option Own) → ℕ → Reference → Term → List Fault
   connection_faults known line sink source =
       undeclared roles known line sink
@@ -317,11 +317,11 @@ port_faults port =
 
 -- ---- all of them
 
--- the faults of a module: those of its ports, then those of its statements
+-- the faults of a module: first of its ports, then of its statements
 abbrev pub module_type_faults : List (Reference × Role) → (List ℕ → Bool) → ModuleTree → List Fault
 module_type_faults roles traced m = flat_map port_faults m.ports ++ along (faults_of roles traced (map port_own m.ports)) m.statements
 
--- those of one of these modules
+-- the faults of one of these modules
 abbrev pub faults_of_module : List ModuleTree → ModuleTree → List Fault
 faults_of_module modules m = module_type_faults (scope_of modules m) (leads_to_input m) m
 

@@ -85,7 +85,7 @@ impl<'a> Typed<'a> {
         &self.names
     }
 
-    /// The places of the circuit's modules, in an order in which each comes after all that it has instances of.
+    /// The places of the circuit's modules, each after all modules that it has instances of.
     pub fn order(&self) -> &[u32]
         ensures order { result.now ≡ self.now.order }
         ensures ordered { IsOrderOf (Holds self.now.circuit.modules) (length self.now.circuit.modules) self.now.order }

@@ -9,8 +9,8 @@ use crate::widths::is_width;
 use gg_ast::{Literal, Radix};
 use gg_bits::{Kind, Ty, Val};
 
-/// A literal's type and the pattern of its number. None if its width is 0 or above 128, or if no pattern of its type
-/// stands for its number.
+/// A literal's type and the pattern of its number. None if its width is 0 or above 128, or if its type has no pattern
+/// with its number.
 pub fn literal(constant: &Literal) -> Option<(Ty, Val)>
     ensures none { IfNone result (literal_shape constant.now ≡ None) }
     ensures some { IfSome result (λ r. literal_shape constant.now ≡ Some (shape r.0)) }
@@ -84,8 +84,8 @@ fn with_digit(number: u128, radix: u128, digit: u128) -> Option<u128>
     }
 }
 
-// Whether a pattern of this kind and width stands for the number with this sign and size. A UInt of w bits has the
-// numbers 0 to 2^w - 1, an SInt -2^(w-1) to 2^(w-1) - 1.
+// Whether a pattern of this kind and width has the number with this sign and size. A UInt of w bits has the numbers 0
+// to 2^w - 1, an SInt -2^(w-1) to 2^(w-1) - 1.
 fn is_number_of(kind: Kind, width: u32, negative: bool, size: u128) -> bool
     requires positive { 1 ≤ width }
     requires bounded { width ≤ 128 }

@@ -34,7 +34,7 @@ impl Drop for Bank<'_> {
     }
 }
 
-/// The type of a signal. A Clock has none, nor does a type whose width is 0 or above 128.
+/// The type of a signal. None for a Clock, and for a width of 0 or above 128.
 pub fn ground_type(ty: GroundType) -> Option<Ty>
     ensures { option_map (λ t. shape t) result ≡ type_shape ty }
 {

@@ -8,7 +8,7 @@ use gg_bits::{Kind, Ty};
 use gg_flat::address_width;
 use gg_shape_names::PortField;
 
-/// A type as it is written, or that of an expression with such types.
+/// A type as it is written, or the type of an expression of such types.
 #[derive(Clone, Copy, PartialEq, Eq)]
 pub enum Sort {
     /// A UInt or an SInt of this many bits, which may be 0 or more than 128.

@@ -44,7 +44,7 @@ pub fn types<'a>(alloc: Global, circuit: &'a Circuit) -> Result<Typed<'a>, TypeF
     }
 }
 
-/// The same as `types`, for a circuit whose names are already collected.
+/// Does what `types` does, for the names of a circuit that are already collected.
 ///
 /// # Errors
 ///
@@ -73,14 +73,14 @@ fn module_order(alloc: Global, names: &Namespace) -> Result<Vec<u32>, CheckFault
     }
 }
 
-// Of the names of each module, by its place, the type data, and the Clock inputs that they lead to.
+// For each module, by its place, the type data of its names, and the Clock inputs that they lead to.
 #[derive(Drop)]
 struct Tables {
     own: Vec<Items<Own>>,
     clocks: Vec<Items<Option<u32>>>,
 }
 
-// The same of one module.
+// The type data of the names of one module, and the Clock inputs that they lead to.
 #[derive(Drop)]
 struct Judged {
     own: Vec<Own>,

@@ -1,4 +1,5 @@
-//! Where names lead, through the drivers of wires and nodes: whether to an input port (F14), and to which Clock input.
+//! Where names lead through the drivers of wires and nodes: whether to an input port (F14), and which Clock input it
+//! is.
 ghost use Rattle.std.specs.Prelude.{◌≡◌, ◌<◌, ◌+◌, ◌*◌, ◌≤◌, ◌-◌, ◌%◌, ◌/◌, ◌++◌, ℕ, List, IfOk, IfSome, length, map, flat_map, option_copied, option_to_list, slice_index, Some, None, if◌then◌else◌};
 ghost use Rattle.gg_ast.specs.Tree.{ModuleTree};
 ghost use Rattle.gg_shape_names.specs.Modules.{module_at};

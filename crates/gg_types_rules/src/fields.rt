@@ -7,7 +7,7 @@ use crate::places::stored_type;
 use gg_ast::{Field, MemoryField};
 use gg_shape::{CheckFault, Word};
 
-// Fails at the first type among a memory's fields that is a Clock, or whose width is 0 or above 128.
+// Fails at the first type among a memory's fields that is a Clock, or has a width of 0 or above 128.
 pub(crate) fn judge_fields(fields: &[Field]) -> Result<(), CheckFault>
     ensures { Answers (memory_type_faults fields.now) result }
 {

@@ -7,7 +7,7 @@ use gg_ast::Port;
 use gg_types::is_clock_input;
 use std::alloc::{AllocError, Global};
 
-// The number of a port among the Clock inputs, of which there are `count` before it; none if it isn't one.
+// The number of a port among the Clock inputs, if there are `count` before it; none if it isn't one.
 fn clock_number(count: u32, port: &Port) -> Option<u32>
     ensures { result ≡ number_of_port count port.now }
 {

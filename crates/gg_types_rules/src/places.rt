@@ -14,7 +14,7 @@ use gg_shape::{CheckFault, Fault, Word};
 use gg_types::{Sort, is_width};
 use std::alloc::Global;
 
-// Refuses the type of a port or a wire whose width is 0 or above 128.
+// Refuses the type of a port or a wire if its width is 0 or above 128.
 pub(crate) fn declared_type(line: u64, ty: GroundType) -> Result<(), CheckFault>
     ensures { Answers (width_faults line ty) result }
 {
@@ -24,7 +24,7 @@ pub(crate) fn declared_type(line: u64, ty: GroundType) -> Result<(), CheckFault>
     }
 }
 
-// Refuses the type of a register or of a memory's words that is a Clock, or whose width is 0 or above 128.
+// Refuses the type of a register or of a memory's words if it is a Clock, or if its width is 0 or above 128.
 pub(crate) fn stored_type(line: u64, word: Word, ty: GroundType) -> Result<(), CheckFault>
     ensures { Answers (stored_type_faults line word ty) result }
 {
@@ -109,7 +109,7 @@ pub(crate) fn clocked(
     condition(alloc, known, line, word, test)
 }
 
-// Refuses a value whose type can't be connected to a sink.
+// Refuses a value if its type can't be connected to a sink.
 pub(crate) fn connected(line: u64, word: Word, sink: Sort, source: Sort) -> Result<(), CheckFault>
     ensures { Answers (connected_faults line word (Some sink) (Some source)) result }
 {

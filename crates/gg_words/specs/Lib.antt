@@ -1,4 +1,4 @@
--- What the contracts of the command line speak of.
+-- The definitions that the contracts of the command line name.
 pub mod Line
 pub mod Number
 pub mod Unexpected

@@ -5,7 +5,7 @@ use Rattle.clap.specs.Walk.{Rule, Text}
 use Rattle.clap.specs.Simple.{App, Shape, new_rule, new_shape}
 use Rattle.clap.specs.declared.builder.action.ArgAction.TheVariants.{SetTrue}
 
--- a word that stands by its place, and is required: a file, or a number
+-- a required word by its place: a file, or a number
 abbrev pub word_rule : Text → Rule
 word_rule id = record (new_rule id) { required = true }
 
@@ -77,7 +77,7 @@ save_shape = command_shape (codes "save") save_rules
 abbrev pub resume_shape : Shape
 resume_shape = command_shape (codes "resume") resume_rules
 
--- The program: it requires a command, and has no words that ask for help.
+-- The program: it requires a command, and has no words for help.
 abbrev pub golden_app : App
 golden_app = record {
   top = record (new_shape (codes "golden")) {

@@ -1,5 +1,5 @@
 -- What words mean: a command, or why they aren't one.
--- Source: `clap`'s definitions for which words are taken (`fault_of`) and what is found in them (`subcommand_of`).
+-- Source: `clap`'s definitions of the words that it takes (`fault_of`) and of what it finds in them (`subcommand_of`).
 use Rattle.std.specs.Prelude.{◌≡◌, ℕ, Bool, false, List, [], Option, None, Some, Result, Ok, Err, String, codes, cond, map, string_bytes, unwrap_or, ⊤}
 use Rattle.std.specs.Option.{option_map_or}
 use Rattle.std.specs.Str.{bytes_eq}
@@ -38,7 +38,7 @@ workers_of rows = number_of 0 most_workers 0 (first_of (codes "workers") rows)
 abbrev pub seed_of : List Row → Result ℕ Text
 seed_of rows = judged 0 greatest_seed (text_of (codes "seed") rows)
 
--- its number of stages: 1 to 64
+-- the number of a demo's stages: 1 to 64
 abbrev pub size_of : List Row → Result ℕ Text
 size_of rows = judged 1 most_stages (text_of (codes "size") rows)
 
@@ -57,29 +57,29 @@ run_of rows = with_number (capacity_of rows) (λ capacity. with_number (workers_
     Ok (Run (text_of (codes "circuit") rows) (text_of (codes "partition") rows) (text_of (codes "trace") rows)
     capacity workers (is_set (codes "mono") rows))))
 
--- the same for `replay`
+-- what is found in the words of `replay`
 abbrev pub replay_of : List Row → Result Cmd Text
 replay_of rows = with_number (capacity_of rows) (λ capacity.
     Ok (Replay (text_of (codes "circuit") rows) (text_of (codes "partition") rows) (text_of (codes "trace") rows)
     (text_of (codes "steps") rows) capacity))
 
--- the same for `check`
+-- what is found in the words of `check`
 abbrev pub check_of : List Row → Result Cmd Text
 check_of rows = with_number (capacity_of rows) (λ capacity.
     Ok (Check (text_of (codes "circuit") rows) (text_of (codes "partition") rows) capacity))
 
--- the same for `demo`
+-- what is found in the words of `demo`
 abbrev pub demo_of : List Row → Result Cmd Text
 demo_of rows = with_number (seed_of rows) (λ seed. with_number (size_of rows) (λ size. with_number (workers_of rows) (λ workers.
     Ok (Demo seed size workers))))
 
--- the same for `save`
+-- what is found in the words of `save`
 abbrev pub save_of : List Row → Result Cmd Text
 save_of rows = with_number (at_of rows) (λ at. with_number (capacity_of rows) (λ capacity. with_number (workers_of rows) (λ workers.
     Ok (Save (text_of (codes "circuit") rows) (text_of (codes "partition") rows) (text_of (codes "trace") rows)
     at capacity workers))))
 
--- the same for `resume`
+-- what is found in the words of `resume`
 abbrev pub resume_of : List Row → Result Cmd Text
 resume_of rows = with_number (capacity_of rows) (λ capacity. with_number (workers_of rows) (λ workers.
     Ok (Resume (text_of (codes "circuit") rows) (text_of (codes "partition") rows) (text_of (codes "trace") rows)
@@ -115,7 +115,7 @@ IsWordFault words (Refused kind) = IsAmong kind (fault_of golden_app words) × (
 IsWordFault words (WrongNumber value) = Says words (Err value)
 IsWordFault words NoMemory = ⊥
 
--- the same, or `NoMemory`
+-- the words aren't a command, because of this, or it is `NoMemory`
 abbrev pub IfWordFault : List Text → WordFault → Type 0
 IfWordFault words (Unexpected word) = IsWordFault words (Unexpected word)
 IfWordFault words (Refused kind) = IsWordFault words (Refused kind)

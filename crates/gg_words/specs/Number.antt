@@ -15,6 +15,6 @@ number_in least most text =
 abbrev pub judged : (least most : ℕ) → List ℕ → Result ℕ (List ℕ)
 judged least most text = option_map_or (λ n. Ok n) (number_in least most text) (Err text)
 
--- The number of an option whose value may be left out. Without a value it is the default.
+-- The number of an option that may have no value. Without a value it is the default.
 abbrev pub number_of : (least most default : ℕ) → Option (List ℕ) → Result ℕ (List ℕ)
 number_of least most default given = option_map_or (judged least most) given (Ok default)

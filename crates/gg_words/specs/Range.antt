@@ -7,7 +7,7 @@ use Rattle.gg_bits.specs.Limits.{capacity_limit}
 abbrev pub IsWithin : (least most : ℕ) → ℕ → Type 0
 IsWithin least most n = (least ≤ n) × (n ≤ most)
 
--- the most workers that may be asked for
+-- the greatest number of workers
 abbrev pub most_workers : ℕ
 most_workers = 64
 
@@ -19,6 +19,6 @@ greatest_seed = 4294967295
 abbrev pub most_stages : ℕ
 most_stages = 64
 
--- a capacity that may be asked for: 1 to 4,096
+-- a capacity that a command takes: 1 to 4,096
 abbrev pub IsCapacity : ℕ → Type 0
 IsCapacity n = IsWithin 1 capacity_limit n

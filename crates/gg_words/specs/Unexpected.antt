@@ -1,5 +1,5 @@
--- Words that `clap` refuses because of one of them, and which one that is.
--- Source: `clap`'s definition of the kinds with which it refuses words (`fault_of`).
+-- Words that `clap` refuses because of one of them, and this word.
+-- Source: `clap`'s definition of the kinds of its refusals (`fault_of`).
 use Rattle.std.specs.Prelude.{◌≡◌, ◌≤◌, ◌+◌, ℕ, Bool, true, false, List, Some, slice_get, take}
 use Rattle.std.specs.List.{list_any}
 use Rattle.clap.specs.Walk.{Text}
@@ -19,8 +19,7 @@ is_for_word _ = false
 unfoldable pub has_unexpected : List Text → Bool
 has_unexpected words = list_any is_for_word (fault_of golden_app words)
 
--- This is the word at which `clap` refuses the words: it refuses them with such a kind, and also the words up to this
--- one, but no fewer of them.
+-- This word makes `clap` refuse the words: it refuses them with such a kind, and also the words up to this one, but no fewer of them.
 pub record IsUnexpected (words : List Text) (word : Text) : Type 0 where
   pub refused : has_unexpected words ≡ true
   pub place : ℕ

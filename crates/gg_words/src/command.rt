@@ -24,7 +24,7 @@ pub enum Cmd {
         /// Whether the circuit is run whole, without a network.
         mono: bool,
     },
-    /// `replay`: gives the network of a circuit after a list of host steps.
+    /// `replay`: prints the network of a circuit after a list of host steps.
     Replay {
         /// The circuit's file.
         circuit: Name,
@@ -37,7 +37,7 @@ pub enum Cmd {
         /// The capacity of channels, 1 to 4,096.
         capacity: u32,
     },
-    /// `check`: gives the plan of a partition.
+    /// `check`: prints the plan of a partition.
     Check {
         /// The circuit's file.
         circuit: Name,
@@ -46,7 +46,7 @@ pub enum Cmd {
         /// The capacity of channels, 1 to 4,096.
         capacity: u32,
     },
-    /// `demo`: makes a circuit, a partition and a trace, runs them, and gives a summary.
+    /// `demo`: makes a circuit, a partition and a trace, runs them, and prints a summary.
     Demo {
         /// The first value of the trace.
         seed: u32,
@@ -55,7 +55,7 @@ pub enum Cmd {
         /// The number of workers, at most 64.
         workers: u32,
     },
-    /// `save`: runs a circuit on a trace up to a cycle, and gives a snapshot of its state there.
+    /// `save`: runs a circuit on a trace up to a cycle, and prints a snapshot of its state there.
     Save {
         /// The circuit's file.
         circuit: Name,
@@ -70,7 +70,7 @@ pub enum Cmd {
         /// The number of workers, at most 64.
         workers: u32,
     },
-    /// `resume`: runs a circuit on a trace from a snapshot on.
+    /// `resume`: runs a circuit on a trace, starting at a snapshot.
     Resume {
         /// The circuit's file.
         circuit: Name,
@@ -90,10 +90,10 @@ pub enum Cmd {
 /// Why words aren't a command.
 #[derive(Debug, Drop)]
 pub enum WordFault {
-    /// `clap` refuses them at this word: as an unknown argument, as no command, or for a value that isn't taken. It refuses
-    /// the words up to this one so too, and no fewer.
+    /// `clap` refuses them at this word: as an unknown argument, as no command, or for a value that isn't taken. It
+    /// also refuses the words up to this one in this way, and no fewer.
     Unexpected(Name),
-    /// `clap` refuses them with this kind, which is none of those of `Unexpected`. It is never `clap`'s kind for a failed
+    /// `clap` refuses them with this kind, which is no kind of `Unexpected`. It is never `clap`'s kind for a failed
     /// allocation.
     Refused(ErrorKind),
     /// `clap` takes them, and this value isn't a number in its range. It is the first such value: a demo's seed before its

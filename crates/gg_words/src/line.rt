@@ -17,7 +17,7 @@ pub(crate) enum Kind {
     Word,
     // After its name, with a value.
     Value,
-    // By its name alone.
+    // By its name, without a value.
     Flag,
 }
 

@@ -212,7 +212,7 @@ fn command_of(alloc: Global, matches: &ArgMatches<'_>) -> Result<Cmd, WordFault>
     }
 }
 
-// Whether the words of this refusal are refused because of one of them.
+// Whether a refusal of this kind is because of one of the words.
 fn is_for_word(kind: ErrorKind) -> bool
     ensures { result ≡ is_for_word kind }
 {
@@ -235,7 +235,7 @@ fn has_unexpected(alloc: Global, words: &[String]) -> Result<bool, AllocError>
     }
 }
 
-// The word because of which `clap` refuses words.
+// The word that makes `clap` refuse the words.
 fn unexpected_word<'a>(alloc: Global, words: &'a [String]) -> Result<&'a str, AllocError>
     requires { has_unexpected (texts words.now) ≡ true }
     ensures { IfOk result (λ word. IsUnexpected (texts words.now) word.now) }
@@ -291,16 +291,16 @@ fn read_words(alloc: Global, words: &[String]) -> Result<Cmd, WordFault>
 /// - `save CIRCUIT PARTITION TRACE AT [--capacity K] [--workers W]`
 /// - `resume CIRCUIT PARTITION TRACE SNAP [--capacity K] [--workers W]`
 ///
-/// Options may be anywhere after the command's name, at most once each. A value is given after `=` or as the next
-/// word. After `--` each word is a file or a number that stands by its place, so a file whose name begins with `-` needs
-/// `--` before it. K is 1 to 4,096, and 2 by default. W is 0 to 64, and 0 by default. SEED is 0 to 4,294,967,295, SIZE is 1
-/// to 64, and AT is 0 to 1,000,000. A number is one or more decimal digits, and may have leading zeros.
+/// Options may be anywhere after the command's name, at most once each. A value is given after `=` or as the next word.
+/// After `--` each word is a file or a number, by its place, so a file name that begins with `-` needs `--` before it.
+/// K is 1 to 4,096, and 2 by default. W is 0 to 64, and 0 by default. SEED is 0 to 4,294,967,295, SIZE is 1 to 64, and
+/// AT is 0 to 1,000,000. A number is one or more decimal digits, and may have leading zeros.
 ///
 /// # Errors
 ///
-/// Returns `Unexpected` with the word because of which `clap` refuses the words, also if it asks for help. Returns
-/// `Refused` if `clap` refuses them for another reason. Else returns `WrongNumber` with the first value, in the order SEED,
-/// SIZE, AT, K, W, that isn't a number in its range. Returns `NoMemory` if an allocation fails.
+/// Returns `Unexpected` with the word that makes `clap` refuse the words, also if it is a word for help. Returns
+/// `Refused` if `clap` refuses them for another reason. Otherwise returns `WrongNumber` with the first value, in the
+/// order SEED, SIZE, AT, K, W, that isn't a number in its range. Returns `NoMemory` if an allocation fails.
 pub fn words(alloc: Global, words: &[String]) -> Result<Cmd, WordFault>
     // The result is the command that the words are.
     ensures command { IfOk result (IsCommand (texts words.now)) }

@@ -1,6 +1,6 @@
 -- A network after workers have run it: its counts, and the events that were done.
--- Source: MEMOCODE 2009 (a network goes on node by node; its counts alone say what it has done, whatever the order); ICCAD
--- 2019 for memories that are served port by port.
+-- Source: MEMOCODE 2009 (a network goes on node by node; its counts say what it has done, in whatever order); ICCAD 2019 for memories that are served
+-- port by port.
 use Rattle.std.specs.Prelude.{◌≡◌, ℕ, ◌*◌, ◌<◌, length}
 use Rattle.gg_flat.specs.Streams.{Flow}
 use Rattle.gg_node.specs.Machine.{machine_at}
@@ -11,7 +11,7 @@ use Rattle.gg_net.specs.Step.{Ready}
 use Rattle.gg_workers_pass.specs.Tries.{StandsBelow}
 use Rattle.gg_workers_pass.specs.Pass.{RisesTo}
 
--- No count has fallen, and none is above both what `upto` cycles make of it and what it was.
+-- No count has fallen, and none is above both its old value and its number after `upto` cycles.
 pub record CountsRose (upto : ℕ) (old new : Network) : Type 0 where
   pub cycles : (m : ℕ) → m < length old.machines → RisesTo upto (machine_at old.machines m).cycle (machine_at new.machines m).cycle
   pub serves : (m : ℕ) → m < length old.machines → RisesTo (length (machine_at old.machines m).ports * upto) (serves old m) (serves new m)
@@ -25,7 +25,7 @@ pub record ReadyDone (upto : ℕ) (old new : Network) : Type 0 where
   pub serve : (m p : ℕ) → Ready old (Serve m p) → StandsBelow upto (machine_at old.machines m) → serves old m < serves new m
   pub finish : (m : ℕ) → Ready old (Finish m) → StandsBelow upto (machine_at old.machines m) → (machine_at old.machines m).cycle < (machine_at new.machines m).cycle
 
--- A network that comes back from workers: one of the same flow and frame, so that its counts say all of it.
+-- A network that comes back from workers. It has the old flow and frame, therefore its counts determine it.
 pub record IsLater (flow : Flow) (upto : ℕ) (old new : Network) : Type 0 where
   pub frame : frame_of new ≡ frame_of old
   pub kept : Kept flow new

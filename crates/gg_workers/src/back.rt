@@ -61,7 +61,7 @@ fn take_apart<H: Host, L: Link, Z: Streams, E: Era>(
 // The lists that the parts of a network move into.
 #[derive(Drop)]
 pub(crate) struct ReturnLists<H, S, T> {
-    // By host.
+    // The hosts, by number.
     pub(crate) hosts: Vec<H>,
     // The seats of each host's machines, by host.
     pub(crate) rows: Vec<HostSeats<S, T>>,
@@ -71,7 +71,7 @@ pub(crate) struct ReturnLists<H, S, T> {
     pub(crate) puts: Vec<T>,
 }
 
-// Lists with room for so many hosts and channels.
+// Lists with room for this many hosts and channels.
 pub(crate) fn new_return_lists<H: Drop, S: Drop, T: Drop>(
     alloc: Global,
     hosts: usize,

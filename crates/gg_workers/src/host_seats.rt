@@ -38,7 +38,7 @@ fn empty_seats<S: Drop, T: Drop>(
     })
 }
 
-// Lists without room for the seats of a host of so many threads.
+// Lists without room for the seats of a host with this many threads.
 fn blank_host<S: Drop, T: Drop>(alloc: Global, count: u32) -> Result<HostSeats<S, T>, AllocError>
     ensures { IfOk result (λ row. length row.by_thread.items ≡ count) }
 {

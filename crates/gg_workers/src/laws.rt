@@ -8,8 +8,8 @@ ghost use Rattle.gg_net.specs.markings.Steps.{Steps};
 ghost use Rattle.gg_workers.specs.Work.{IsLater};
 ghost use Rattle.gg_workers.specs.inside.LaterLaws.{FallsByReady};
 
-/// Steps lead from a network to the one that comes back from workers. The measure has fallen by at least the number of
-/// the events that could be done, of machines below `upto`.
+/// Steps lead from a network to the network that comes back from workers. The measure has fallen by at least the number
+/// of the events that could be done, of machines below `upto`.
 pub fn later_by_steps()
     ensures steps { (flow : Flow) (upto : ℕ) (old new : Network) → Kept flow old → IsLater flow upto old new → (events : List Event) × Steps old (map (λ e. Some e) events) new }
     ensures falls { FallsByReady }

@@ -28,7 +28,7 @@ pub(crate) fn take_counts<H: Host, Z: Streams>(
     Ok(counts)
 }
 
-// Opens the links of all channels. If one can't be made, those that were are closed, and all is as before.
+// Opens the links of all channels. If one can't be made, the links made before it are closed, and all is as before.
 pub(crate) fn open_links<H: Host, L: Link, Z: Streams, E: Era>(
     home: L::Home,
     alloc: Global,

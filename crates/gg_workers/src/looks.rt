@@ -21,7 +21,7 @@ use std::hint;
 // How often a worker looks at an event in one turn.
 const LOOKS: u32 = 200;
 
-// What came of looking at an event.
+// The result of looking at an event.
 #[derive(Clone, Copy, Drop)]
 pub(crate) struct Looked {
     // Whether it was done.
@@ -52,7 +52,7 @@ fn is_past<H: Host>(host: &H, station: &Station, own: &OwnEvent, cycle: u64) -> 
     }
 }
 
-// Looks at an event of one machine until it is done. Stops, too, if it was done before, and after so many looks.
+// Looks at an event of one machine until it is done. Also stops if it was done before, and after `LOOKS` looks.
 fn look<H: Host, L: Link, Z: Streams, E: Era>(
     links: &[L],
     station: &Station,
@@ -156,7 +156,7 @@ fn look_host<H: Host, L: Link, Z: Streams, E: Era>(
     )
 }
 
-// Looks at an event of a worker's hosts, of which the last has the least number.
+// Looks at an event of a worker's hosts. The last of them has the least number.
 fn look_all<H: Host, L: Link, Z: Streams, E: Era>(
     links: &[L],
     stations: &[Station],

@@ -22,10 +22,10 @@ use gg_node::Host;
 use gg_workers_pass::Era;
 use std::alloc::{AllocError, Global};
 
-// All memory that an opening takes, but for the links' own. `X` are the links.
+// All memory that an opening takes, except the links' own. `X` are the links.
 #[derive(Drop)]
 struct Reserve<H, X, S, T> {
-    // What hosts and workers need.
+    // The memory for hosts and workers.
     setup: Setup<H, S, T>,
     // The lists for the way back.
     return_lists: ReturnLists<H, S, T>,
@@ -148,8 +148,7 @@ fn assemble<H: Host, L: Link, Z: Streams, E: Era>(
     }
 }
 
-// Opens a network for some workers. All memory for the run is taken here. `starts` is how many tokens were taken from each
-// channel.
+// Opens a network for some workers. All memory for the run is taken here. `starts` has the number of tokens that were taken from each channel.
 pub(crate) fn open_net<H: Host, L: Link, Z: Streams, E: Era>(
     home: L::Home,
     alloc: Global,

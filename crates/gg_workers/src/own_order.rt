@@ -1,5 +1,5 @@
-//! `OwnOrder`: the events of a common order that are a worker's own. It owes nothing: it says what is tried next, and not
-//! what is done.
+//! `OwnOrder`: the events of a common order that are a worker's own. It has no invariant: it says only what is tried
+//! next.
 ghost use Rattle.std.specs.Prelude.{◌<◌};
 
 use gg_measure::Order;
@@ -16,12 +16,11 @@ pub(crate) struct OwnEvent {
     pub(crate) thread: u32,
     // The place of the in or the out; 0 if it is neither a latch nor a fire.
     pub(crate) place: u32,
-    // The event.
     pub(crate) event: Event,
 }
 
 impl OwnEvent {
-    // The event alone is chosen, or all ports of its machine.
+    // Only the event is chosen, or all ports of its machine.
     pub(crate) fn chosen(&self) -> Chosen {
         match self.event {
             Event::Latch { channel: _ } => Chosen::latch(self.place),

@@ -190,12 +190,11 @@ fn run_up<R: Threads + Sync, H: Host, L: Link, Z: Streams, G: Gate + Sync>(
     run_net::<R, H, L, Z, Brand, G>(rt, home, alloc, net, workers, &orders, upto, gate)
 }
 
-/// Runs the machines of a network by this many workers, each in a thread of its own. Host h belongs to worker h mod
-/// `workers`. Each worker goes by the steps of its own machines in the order, which owes nothing: without steps in it the
-/// workers only take longer. A worker ends before a turn where no machine of its hosts is below cycle `upto`, or after
-/// 1,024 turns in a row without a step. After such a turn it lets other threads go on. The network that comes back may be
-/// short of `upto`. One worker runs the whole network in one turn, if no machine has reached `upto`: then all stand there.
-/// With no workers it is the one handed in.
+/// Runs the machines of a network by this many workers, each in a thread of its own. Host h belongs to worker h mod `workers`. Each worker goes by
+/// the steps of its own machines in the order. The order may be any: without steps in it the workers only take longer. A worker ends before a turn
+/// where no machine of its hosts is below cycle `upto`, or after 1,024 turns in a row without a step. After a turn without a step it lets other
+/// threads go on. The machines of the network that comes back may be below `upto`. One worker runs the whole network in one turn, if no machine has
+/// reached `upto`; then all machines are at `upto`. With no workers the network comes back as it was.
 ///
 /// All memory is taken before the first step.
 ///

@@ -1,4 +1,4 @@
-//! What workers need: first all memory is taken, then the hosts get the seats of their machines.
+//! The memory for workers. It is taken first, and then the hosts get the seats of their machines.
 ghost use Rattle.std.specs.Prelude.{◌≡◌, ℕ, ◌^◌, ◌<◌, ◌≤◌, [], length, map, IfOk};
 ghost use Rattle.std.specs.Vec.{vec_capacity};
 ghost use Rattle.gg_net.specs.Network.{frame_of};
@@ -33,7 +33,6 @@ pub(crate) struct Setup<H, S, T> {
     pub(crate) puts: Vec<Option<T>>,
     // The hosts with the seats of their machines.
     pub(crate) linked_hosts: Vec<LinkedHost<H, S, T>>,
-    // The workers.
     pub(crate) workers: Vec<Worker<H, S, T>>,
 }
 
@@ -48,7 +47,7 @@ fn thread_counts<H: Host>(alloc: Global, hosts: &[H]) -> Result<Vec<u32>, AllocE
     Ok(counts)
 }
 
-// So many workers without hosts, each with room for all.
+// This many workers without hosts, each with room for all.
 fn idle_workers<H: Drop, S: Drop, T: Drop>(
     alloc: Global,
     count: u32,

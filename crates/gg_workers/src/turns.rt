@@ -1,4 +1,5 @@
-//! A worker's turns. The first is one pass over all machines of its hosts. In each other one it goes on in its own order.
+//! A worker's turns. The first is one pass over all machines of its hosts. In each later turn it goes on in its own
+//! order.
 ghost use Rattle.std.specs.Prelude.{◌≡◌, ◌↔◌, ◌⊎◌, ℕ, ◌+◌, ◌*◌, ◌<◌, ◌≤◌, length, map, MatchBool, true};
 ghost use Rattle.gg_node.specs.Machine.{machine_at};
 ghost use Rattle.gg_net.specs.Network.{frame_of};
@@ -18,10 +19,10 @@ use gg_node::Host;
 use gg_workers_pass::{Era, MachineSeats, pass};
 use std::{hint, thread};
 
-// A worker ends after so many turns in a row without a step.
+// A worker ends after this many turns in a row without a step.
 const IDLE_TURNS: u32 = 1024;
 
-// After so many turns in a row without a step, and each so many more, a turn is a pass over all machines.
+// After this many turns in a row without a step, and each time after as many more, a turn is a pass over all machines.
 const WAITING_TURNS: u32 = 64;
 
 // The longest rest after a turn without a step, in waits of the processor.
@@ -144,8 +145,8 @@ fn lowest<H: Host, S, T>(linked_hosts: &[LinkedHost<H, S, T>]) -> u64 {
     lowest
 }
 
-// The events that a worker tries in its next turn, after so many in a row without a step; None if it passes over all its
-// machines, as it does, too, where it has no order of its own.
+// The events that a worker tries in its next turn, after `idle` turns in a row without a step. None if the turn is a
+// pass over all its machines, as it also is if the worker has no order of its own.
 fn events_after<'a>(orders: &'a [OwnOrder], worker: u32, idle: u32) -> Option<&'a [OwnEvent]> {
     if idle % WAITING_TURNS == WAITING_TURNS - 1 {
         return None;
@@ -157,7 +158,7 @@ fn events_after<'a>(orders: &'a [OwnOrder], worker: u32, idle: u32) -> Option<&'
     Some(own.events.as_slice())
 }
 
-// A turn of a worker but the first. True if a step was done.
+// A turn of a worker after its first. True if a step was done.
 fn take_turn<H: Host, L: Link, Z: Streams, E: Era>(
     links: &[L],
     stations: &[Station],
@@ -184,7 +185,7 @@ fn take_turn<H: Host, L: Link, Z: Streams, E: Era>(
     }
 }
 
-// Lets other threads go on, after so many turns in a row without a step. The more there were, the longer it takes.
+// Lets other threads go on, after `idle` turns in a row without a step. The more there were, the longer it takes.
 fn rest(idle: u32) {
     for _ in 0..idle.min(LONGEST_REST) {
         hint::spin_loop();
@@ -204,8 +205,8 @@ fn idle_after(stepped: bool, idle: u32) -> u32
     idle + 1
 }
 
-// The turns of a worker from turn 1 on, after so many turns in a row without a step. Returns the number of the turn that
-// isn't made any more.
+// The turns of a worker after its first, after `idle_before` turns in a row without a step. Returns the number of the
+// turn that isn't made any more.
 fn more_turns<H: Host, L: Link, Z: Streams, E: Era, G: Gate>(
     links: &[L],
     stations: &[Station],

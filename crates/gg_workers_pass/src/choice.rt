@@ -5,13 +5,13 @@ ghost use Rattle.gg_workers_pass.specs.inside.Chosen.{all_chosen, none_chosen};
 /// Which events of one machine are tried. Ins and outs are given by their places.
 #[derive(Clone, Copy, Drop)]
 pub struct Chosen {
-    /// The first in at which a token may be latched.
+    /// The first in that may be latched.
     pub first_in: u32,
-    /// The place behind the last such in.
+    /// The place after the last in that may be latched.
     pub past_in: u32,
     /// The first out that may give its token.
     pub first_out: u32,
-    /// The place behind the last such out.
+    /// The place after the last out that may give its token.
     pub past_out: u32,
     /// Whether ports are served.
     pub serves: bool,

@@ -1,7 +1,7 @@
-//! `Era`: the network from which links are opened, used only in proofs.
+//! `Era`: the network that links are opened from, used only in proofs.
 use std::marker::Brand;
 
-/// The network from which links are opened. Only proofs use it: the trait has no calls, and no code reads it.
+/// The network that links are opened from. Only proofs use it: the trait has no calls, and no code reads it.
 pub trait Era: Send {
     ghost use Rattle.gg_net.specs.Network.{Network};
 

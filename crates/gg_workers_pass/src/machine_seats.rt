@@ -1,6 +1,6 @@
 //! `MachineSeats`: the seats of one machine.
 
-/// The seats of the channels of one machine. `S` are the seats that take, `T` those that put.
+/// The seats of the channels of one machine. `S` are the seats that take, and `T` the seats that put.
 #[derive(Drop)]
 pub struct MachineSeats<S, T> {
     /// The number of the machine.

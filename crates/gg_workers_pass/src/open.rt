@@ -42,8 +42,8 @@ fn open_one<L: Link, Z: Streams>(
     made
 }
 
-/// Makes a link for each channel, in their order, with what its queue holds. `starts` has the number of tokens that were
-/// taken from each channel.
+/// Makes a link for each channel, in their order, with the tokens of its queue. `starts` has the number of tokens that
+/// were taken from each channel.
 ///
 /// # Errors
 ///

@@ -1,4 +1,4 @@
-//! A pass over one machine: a try of each of its events, or of those that are chosen.
+//! A pass over one machine: a try of each of its events, or of the chosen ones.
 ghost use Rattle.std.specs.Prelude.{◌≡◌, ℕ, ◌<◌, ◌≤◌, length, slice_set};
 ghost use Rattle.gg_node.specs.Machine.{machine_at};
 ghost use Rattle.gg_net.specs.Network.{frame_of, kind_at};

@@ -4,7 +4,7 @@ ghost use Rattle.std.specs.Vec.{vec_capacity};
 ghost use Rattle.gg_flat.specs.Line.{value_at};
 ghost use Rattle.gg_workers_pass.specs.inside.SeatLists.{AreOnce, AllThere, RowIsThere, RowTakenOut, RowPutBack};
 
-/// Moves the seats into a list from which each can be taken by its number.
+/// Moves the seats into a list, so that each can be taken out by its number.
 pub fn wrap_all<S: Drop>(seats: Vec<S>, into: &mut Vec<Option<S>>)
     requires none { into.old.items ≡ [] }
     requires room { length seats.items ≤ vec_capacity into.old }

@@ -1,5 +1,5 @@
-//! One try of each event of one machine, at a thread of its host. The machine is below the cycle up to which machines are
-//! stepped: that is asked once a pass. What is answered at once is asked first.
+//! One try of each event of one machine, at a thread of its host. The machine is below the cycle `upto`: each pass
+//! checks this once. The conditions that are checked quickest come first.
 ghost use Rattle.std.specs.Prelude.{◌≡◌, ℕ, ◌<◌, All, length, map, slice_get, Some, None, false};
 ghost use Rattle.gg_node.specs.Machine.{machine_at, latch_at, flag_at, missing};
 ghost use Rattle.gg_node.specs.inside.Machine.{due};

@@ -289,7 +289,7 @@ fn do_handed<R: Threads + Sync, S: Shelf, K: Sink, G: Gate + Sync, B: Bridge + S
     do_command(rt, alloc, cmd, &models, bridges, shelf, out, gate)
 }
 
-// Does the command that the words ask for.
+// Does the command of the words.
 fn command<R: Threads + Sync, S: Shelf, K: Sink, G: Gate + Sync, B: Bridge + Send + Drop>(
     rt: &R,
     alloc: Global,
@@ -327,7 +327,7 @@ fn status_of<E: Sink>(ended: &Result<(), Ending>, err: &mut E) -> u8
     }
 }
 
-// Does what the words ask for, and reports how it ended.
+// Does the command of the words, and reports how it ended.
 fn answer<R: Threads + Sync, S: Shelf, K: Sink, E: Sink, G: Gate + Sync, B: Bridge + Send + Drop>(
     rt: &R,
     alloc: Global,
@@ -352,23 +352,27 @@ fn answer<R: Threads + Sync, S: Shelf, K: Sink, E: Sink, G: Gate + Sync, B: Brid
     status_of(&ended, err)
 }
 
-/// A call of the program. Does what the words ask for, with files from `shelf`. Writes the text to `out`, and at most
-/// one line to `err`, which the usage of each command may follow. Returns the status. The first word is the program's own name. All memory comes from `alloc`: the
-/// files, one at a time, what is built from them, and the lines of refusals. If an allocation fails the status is 5.
+/// A call of the program. Does the command of the words, with files from `shelf`. Writes the text to `out`, and at most one line to `err`, which the
+/// usage of each command may follow. Returns the status. The first word is the program's own name. All memory comes from `alloc`: the files, one at a
+/// time, what is built from them, and the lines of refusals. If an allocation fails the status is 5.
 ///
-/// `run CIRCUIT PARTITION TRACE` writes the text of the run on the trace of the circuit with the pipes that the partition
-/// asks for: a header, then a row for each cycle, to the first one in which a stop acts. A cycle is a base tick. Each clock has an edge
-/// in the ticks that the ratio tells which the partition gives it, or in each tick. A stop acts if its condition is one and its clock
-/// has an edge. It runs the network of the cut, up to 1,024 cycles before their rows are
-/// written: by its workers, each in a thread of `rt`, and then by steps in the fixed order. With `--mono` it runs the
-/// simulator. Only the workers call the gate. `replay CIRCUIT PARTITION TRACE STEPS` does the steps of a file, one after
-/// another, on the network of the cut, beginning before its first cycle. It writes a line for each channel, with the number
-/// of tokens that were put, the number that were taken, and the tokens that it had so far. `check CIRCUIT PARTITION` writes a line for each machine
-/// of the cut, then one for each channel. `demo SEED SIZE` makes a circuit, a partition and a trace, runs their network and
-/// writes a summary. `save CIRCUIT PARTITION TRACE AT` runs the network up to cycle AT, and writes the snapshot of the state that the circuit
-/// with the pipes is in before that cycle: it doesn't depend on the rest of the partition. `resume CIRCUIT PARTITION TRACE SNAP` runs the network
-/// from the cycle and the state of a snapshot on, and writes the header and the rows from that cycle on, again to the first in which a stop
-/// acts. Statuses:
+/// The commands:
+///
+/// - `run CIRCUIT PARTITION TRACE` writes the text of the run on the trace of the circuit with the partition's pipes: a header, then a row for each
+///   cycle, up to the first one where a stop acts. A cycle is a base tick. Each clock has an edge in the ticks of the ratio that the partition gives
+///   it, or in each tick. A stop acts if its condition is one and its clock has an edge. `run` runs the network of the cut, up to 1,024 cycles before
+///   their rows are written: by its workers, each in a thread of `rt`, and then by steps in the fixed order. With `--mono` it runs the simulator.
+///   Only the workers call the gate.
+/// - `replay CIRCUIT PARTITION TRACE STEPS` does the steps of a file, one after another, on the network of the cut, beginning before its first cycle.
+///   It writes a line for each channel, with the number of tokens that were put, the number that were taken, and the tokens that it had so far.
+/// - `check CIRCUIT PARTITION` writes a line for each machine of the cut, then one for each channel.
+/// - `demo SEED SIZE` makes a circuit, a partition and a trace, runs their network and writes a summary.
+/// - `save CIRCUIT PARTITION TRACE AT` runs the network up to cycle AT, and writes the snapshot of the state before that cycle. It is the state of
+///   the circuit with the pipes, and doesn't depend on the rest of the partition.
+/// - `resume CIRCUIT PARTITION TRACE SNAP` runs the network from the cycle and the state of a snapshot. It writes the header and the rows starting at
+///   that cycle, again up to the first one where a stop acts.
+///
+/// The statuses:
 ///
 /// - 0: the text was written whole;
 /// - 1: the circuit has a fault; nothing was written;
@@ -376,18 +380,27 @@ fn answer<R: Threads + Sync, S: Shelf, K: Sink, E: Sink, G: Gate + Sync, B: Brid
 /// - 3: a load failed, which the shelf counts as a fault; nothing was written;
 /// - 4: a put on `out` failed, which `out` counts as a fault; a first part of the text was written;
 /// - 5: an allocation failed; nothing or a first part of the text was written;
-/// - 6: the partition has a fault for the circuit, which has none, or asks for a bridge for `save` or `resume`; nothing was written;
+/// - 6: the partition has a fault for the circuit, which has none, or it has a bridge for `save` or `resume`; nothing was written;
 /// - 7: the trace has a fault, and the files before it have none; nothing was written;
 /// - 8: a file is longer than its limit; nothing was written;
-/// - 9: a step of the steps file may not be done after those before it, and the files before it have no fault; nothing
-///   was written;
-/// - 10: the run of `save` has no state before the cycle that was asked for, since a stop ends it or the trace is too short; or
-///   the file for `resume` isn't the text of a snapshot of the circuit with the pipes, or is that of one before a later cycle than the trace
-///   has rows. The files before it have no fault; nothing was written.
+/// - 9: a step of the steps file may not be done after the steps before it, and the files before it have no fault; nothing was written;
+/// - 10: the run of `save` has no state before cycle AT, because a stop ends it or the trace is too short. Or the file for `resume` isn't the text of
+///   a snapshot of the circuit with the pipes, or its cycle is later than the trace has rows. The files before it have no fault; nothing was written.
 ///
 /// If the files are known and no load or put fails, the files and the words determine the status, unless it is 5.
 ///
-/// No bridge is handed in, so a partition that asks for one is refused.
+/// No bridge is handed in, and so a partition with a bridge is refused.
+///
+/// # Examples
+///
+/// The words are `golden run counter.fir whole.json counter.trace`, and the shelf has these files of examples/.
+///
+/// ```text
+/// golden(&rt, alloc, &words, &mut shelf, &mut out, &mut err, &NoGate)  // 0
+/// // On `out`: "cycle out\n0 00\n1 00\n2 01\n3 02\n". On `err`: nothing.
+/// ```
+///
+/// With only the words `golden run` the status is 2. Then nothing is on `out`, and on `err` a line with the fault and the usage.
 pub fn golden<R: Threads + Sync, S: Shelf, K: Sink, E: Sink, G: Gate + Sync>(
     rt: &R,
     alloc: Global,
@@ -405,15 +418,27 @@ pub fn golden<R: Threads + Sync, S: Shelf, K: Sink, E: Sink, G: Gate + Sync>(
     golden_with(rt, alloc, words, shelf, out, err, gate, Vec::new(alloc))
 }
 
-/// The same as `golden`, where these bridges are handed in, each with its name. A partition may list some of them, each for outputs of the
-/// circuit's top that it sees and for inputs that it drives: in each cycle such an input has the value that the bridge says, and the
-/// bridge answers what it sees with its next state. The trace has no columns for those inputs, and the outputs that bridges see aren't
-/// written. The text is that of the run of the circuit with the models of the bridges in it. With `--mono` the models are simulated, and no
-/// bridge is called. `save` and `resume` take a partition without bridges only.
+/// A call as of `golden`, with these bridges handed in, each with its name. A partition may list some of them, each for outputs of the circuit's top
+/// that it sees and for inputs that it drives: in each cycle such an input has the value that the bridge says, and the bridge answers what it sees
+/// with its next state. The trace has no columns for those inputs, and the outputs that bridges see aren't written. The text is the text of the run
+/// of the circuit with the models of the bridges in it. With `--mono` the models are simulated, and no bridge is called. `save` and `resume` take
+/// only a partition without bridges.
 ///
-/// The names of the bridges differ, and each has at least one ASCII letter, digit or `_` and nothing else. Each bridge is in the state of
-/// zeros, and their models have at most 4,000,000,000 signals together. Models are copied, with memory of `alloc`; each bridge is called by
-/// one worker at a time, or given up.
+/// The names of the bridges differ. Each has at least one ASCII letter, digit or `_`, and no other byte. Each bridge is in the state of zeros, and
+/// their models have at most 4,000,000,000 signals together. Models are copied, with memory of `alloc`. Each bridge is called by one worker at a
+/// time, or dropped.
+///
+/// # Examples
+///
+/// The words are `golden run ping.fir echo.json ping.trace`, and the shelf has these files of examples/bridges/. The partition lists `echo8`, which
+/// sees `send` and drives `back`. `bridges` has an `Echo` of 8 bits with this name.
+///
+/// ```text
+/// golden_with(&rt, alloc, &words, &mut shelf, &mut out, &mut err, &NoGate, bridges)  // 0
+/// // On `out`: "cycle count\n0 00\n1 01\n2 01\n3 02\n4 02\n5 03\n6 03\n7 04\n". On `err`: nothing.
+/// ```
+///
+/// Without bridges in the list the status is 6.
 pub fn golden_with<R: Threads + Sync, S: Shelf, K: Sink, E: Sink, G: Gate + Sync>(
     rt: &R,
     alloc: Global,

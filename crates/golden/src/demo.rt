@@ -87,7 +87,7 @@ fn demo_case(alloc: Global, size: u32) -> Result<Case, Ending>
     let design = demo_design(alloc, size)?;
     match demo_cut(alloc, size, &design) {
         Ok(cut) => {
-            // for the invariant alone
+            // for the invariant only
             let _ = design.order();
             let _ = design.piece();
             Ok(Case { design, cut })
@@ -115,12 +115,12 @@ fn demo_inputs(
 {
     let text = trace_text(alloc, seed, size)?;
     let trace = inputs_of(alloc, text.as_bytes(), design, request)?;
-    // for the invariant alone: the limit on rows
+    // for the invariant only: the limit on rows
     let _ = trace.rows();
     Ok(trace)
 }
 
-// What the three texts of a demo mean. An error says nothing, as above.
+// The meaning of the three texts of a demo. An error says nothing, as above.
 fn demo_fed(alloc: Global, seed: u32, size: u32) -> Result<Fed, Ending>
     requires some { 0 < size }
     requires most { size ≤ 64 }
@@ -144,7 +144,7 @@ fn is_whole(fed: &Fed, size: u32) -> bool
     piece.outs().len() >= 2 && fed.trace.rows() == 4 * u64::from(size)
 }
 
-// Runs the network of the plan, whose channels carry the values of a flow, and folds its rows.
+// Runs the network of the plan, and folds its rows. Its channels carry the values of a flow.
 fn sum_fed<R: Threads + Sync, Z: Streams, G: Gate + Sync>(
     rt: &R,
     alloc: Global,

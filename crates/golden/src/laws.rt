@@ -1,4 +1,4 @@
-//! Laws: facts about what is reported for files, and about what a run writes that goes on. Each is the contract of a function.
+//! Laws: facts about the reports for files, and about runs that go on from a snapshot. Each is the contract of a function.
 ghost use Rattle.std.specs.Prelude.{◌≡◌, ℕ, List};
 ghost use Rattle.gg_cut_plan.specs.Bridges.{Models};
 ghost use Rattle.gg_read.specs.Text.{HasReadFault};
@@ -37,10 +37,9 @@ pub fn refusals_are_exact()
     one_snapshot();
 }
 
-/// `resume` goes on where `save` stopped, under any partition that asks for the same pipes and for no bridge and gives the clocks the same
-/// ratios, whatever its units, its memories, its direct channels and its capacities. A run that starts from the state of another run before a
-/// cycle prints the rest of what the other prints. So the text that `save` writes is accepted as a snapshot, and what `resume` writes is the
-/// rest of what `run` writes.
+/// `resume` goes on where `save` stopped, under any partition with the same pipes and the same ratios of clocks and without bridges, whatever its
+/// units, its memories, its direct channels and its capacities. A run that starts from the state of another run before a cycle prints the rest of
+/// what the other prints. The text that `save` writes is accepted as a snapshot, and `resume` writes the rest of the text that `run` writes.
 pub fn resumed_runs_go_on()
     ensures runs { RunsGoOn }
     ensures accepted { (models : Models) → SavedIsAccepted models }

@@ -73,8 +73,8 @@ fn replay_steps<S: Shelf, K: Sink, B: Bridge + Send + Drop>(
     replay_bytes(alloc, fed, models, bridges, bytes.as_slice(), out)
 }
 
-// `replay`: reads the circuit, the partition, the trace and the steps, does the steps on the network, and writes a
-// line for each channel. `models` are those of the bridges.
+// `replay`: reads the circuit, the partition, the trace and the steps, does the steps on the network, and writes a line
+// for each channel. `models` are the models of the bridges.
 pub(crate) fn replay<S: Shelf, K: Sink, B: Bridge + Send + Drop>(
     alloc: Global,
     circuit: &str,

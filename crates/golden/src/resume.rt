@@ -52,7 +52,7 @@ fn within<'a>(alloc: Global, snap: Snap<'a>, rows: u64) -> Result<Snap<'a>, Endi
     Ok(snap)
 }
 
-// The snapshot of a reference circuit whose text these bytes are, if its cycle is at most this number of rows.
+// The snapshot of a reference circuit from its text, if its cycle is at most this number of rows.
 fn snap_in<'a>(
     alloc: Global,
     reference: &'a Design,
@@ -71,7 +71,7 @@ fn snap_in<'a>(
     }
 }
 
-// Prints the run from a snapshot on, from the network of the plan, whose channels carry the values of a flow.
+// Prints the run that begins with a snapshot, from the network of the plan. Its channels carry the values of a flow.
 fn print_since<R: Threads + Sync, Z: Streams, K: Sink, G: Gate + Sync>(
     rt: &R,
     alloc: Global,
@@ -112,7 +112,7 @@ fn print_since<R: Threads + Sync, Z: Streams, K: Sink, G: Gate + Sync>(
     )
 }
 
-// Prints the run from a snapshot of the reference circuit on: a header, and the rows from the snapshot's cycle on.
+// Prints the run that begins with a snapshot of the reference circuit: a header, and the rows starting at the snapshot's cycle.
 fn print_rest<R: Threads + Sync, K: Sink, G: Gate + Sync>(
     rt: &R,
     alloc: Global,
@@ -134,7 +134,7 @@ fn print_rest<R: Threads + Sync, K: Sink, G: Gate + Sync>(
     print_since::<R, Brand, K, G>(rt, alloc, fed, models, &ports, snap, workers, out, gate)
 }
 
-// `resume`, after all files were loaded and those before the snapshot's were read.
+// `resume`, after all files were loaded and all but the snapshot's were read.
 fn resume_bytes<R: Threads + Sync, K: Sink, G: Gate + Sync>(
     rt: &R,
     alloc: Global,
@@ -184,8 +184,8 @@ fn resume_fed<R: Threads + Sync, S: Shelf, K: Sink, G: Gate + Sync>(
     resume_bytes(rt, alloc, fed, models, bytes, workers, out, gate)
 }
 
-// `resume`: reads the circuit, the partition, the trace and the snapshot, and writes the text of the run of the circuit with the pipes
-// that the partition asks for, from the snapshot on. These models of bridges are known, but none may be asked for.
+// `resume`: reads the circuit, the partition, the trace and the snapshot, and writes the text of the run, which begins with the snapshot, of the
+// circuit with the partition's pipes. These models of bridges are known, but the partition may have no bridge.
 pub(crate) fn resume<R: Threads + Sync, S: Shelf, K: Sink, G: Gate + Sync>(
     rt: &R,
     alloc: Global,

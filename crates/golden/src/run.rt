@@ -27,7 +27,7 @@ use golden_commands::{Fed, print_fed, print_run, read_fed};
 use std::alloc::Global;
 use std::thread::Threads;
 
-// Prints the run of a design on a trace, with its pipes and bridges: by the simulator if `mono`, and else from the network of the cut.
+// Prints the run of a design on a trace, with its pipes and bridges: by the simulator if `mono`, otherwise from the network of the cut.
 fn print_text<R: Threads + Sync, B: Bridge + Send + Drop, K: Sink, G: Gate + Sync>(
     rt: &R,
     alloc: Global,
@@ -53,9 +53,8 @@ fn print_text<R: Threads + Sync, B: Bridge + Send + Drop, K: Sink, G: Gate + Syn
     }
 }
 
-// `run`: reads the circuit, the partition and the trace, and writes the text of the run of the circuit with the pipes and the bridges that
-// the partition asks for: by the simulator if `mono`, and else from the network of the cut, which this many workers run. `models` are
-// those of the bridges.
+// `run`: reads the circuit, the partition and the trace, and writes the text of the run of the circuit with the partition's pipes and bridges: by the
+// simulator if `mono`, otherwise from the network of the cut, which this many workers run. `models` are the models of the bridges.
 pub(crate) fn run<R: Threads + Sync, S: Shelf, K: Sink, G: Gate + Sync, B: Bridge + Send + Drop>(
     rt: &R,
     alloc: Global,

@@ -30,8 +30,8 @@ use std::alloc::{AllocError, Global};
 use std::marker::Brand;
 use std::thread::Threads;
 
-// Runs the network of the plan, whose channels carry the values of a flow, to its end. Returns the network, and the first cycle in which
-// a stop ends a run of this many cycles. If there is none, the network stands at its end.
+// Runs the network of the plan to its end. Its channels carry the values of a flow. Returns the network, and the first cycle where a stop ends a run
+// of this many cycles. If there is none, the network is at its end.
 fn run_upto<'f, R: Threads + Sync, Z: Streams, G: Gate + Sync>(
     rt: &R,
     alloc: Global,
@@ -87,8 +87,8 @@ fn text_of<Z: Streams>(
     snap_text(alloc, &snap)
 }
 
-// The text of the snapshot of the run before cycle `at`, from the network of the plan, whose channels carry the values of a flow. The
-// trace that was read has `cycles` rows; `fed` has those before that cycle.
+// The text of the snapshot of the run before cycle `at`, from the network of the plan. Its channels carry the values of a flow. The trace that was
+// read has `cycles` rows; `fed` has the rows before that cycle.
 fn text_upto<R: Threads + Sync, Z: Streams, G: Gate + Sync>(
     rt: &R,
     alloc: Global,
@@ -165,8 +165,8 @@ fn save_fed<R: Threads + Sync, K: Sink, G: Gate + Sync>(
     save_upto(rt, alloc, &fed, models, cycles, at, workers, out, gate)
 }
 
-// `save`: reads the circuit, the partition and the trace, runs the network of the cut up to cycle `at`, and writes the snapshot of the
-// state of the reference circuit before that cycle. These models of bridges are known, but none may be asked for.
+// `save`: reads the circuit, the partition and the trace, runs the network of the cut up to cycle `at`, and writes the snapshot of the state of the
+// reference circuit before that cycle. These models of bridges are known, but the partition may have no bridge.
 pub(crate) fn save<R: Threads + Sync, S: Shelf, K: Sink, G: Gate + Sync>(
     rt: &R,
     alloc: Global,

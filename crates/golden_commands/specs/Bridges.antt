@@ -1,6 +1,5 @@
--- Bridges that are handed in, and what the caller of `golden_with` owes of them.
--- Source: ICCAD 2019 (bridges: models in the host's own code that stand at a target's ports). The form of a name and the limit are this
--- program's own.
+-- Bridges that are handed in, and what the caller of `golden_with` has to ensure about them.
+-- Source: ICCAD 2019 (bridges: models in the host's own code at a target's ports). The form of a name and the limit are this program's own.
 use Rattle.std.specs.Prelude.{◌≡◌, ◌≢◌, ℕ, ◌≤◌, List, All, AllPairs, length, map, sum}
 use Rattle.gg_flat.specs.Circuit.{FlatCircuit}
 use Rattle.gg_flat.specs.State.{State, opening}

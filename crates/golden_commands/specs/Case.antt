@@ -1,4 +1,4 @@
--- What the code has once the first files of a command are read.
+-- The values that the code has after the first files of a command are read.
 -- Source: this program's own.
 use Rattle.std.specs.Prelude.{ℕ, ◌≤◌, List}
 use Rattle.gg_bits.specs.Limits.{cycle_limit}
@@ -17,9 +17,9 @@ use Rattle.golden_commands.specs.RunText.{FeedsOnly}
 use Rattle.golden_commands.specs.declared.case.Case.{Case}
 use Rattle.golden_commands.specs.declared.case.Fed.{Fed}
 
--- The bytes of a circuit and of a partition mean this design, which keeps to its tree and in which each register is held by exactly one
--- signal, and this request. This is the plan of their cut, with this capacity of the channels that the request doesn't name. The models
--- are what the program's caller owes.
+-- The case of a circuit and a partition with these bytes. Its design keeps to its tree, and exactly one signal holds each register. Its plan is the
+-- plan of the request's cut, with this capacity of the channels that the request doesn't name. The program's caller has to ensure the facts about the
+-- models.
 pub record IsCase (known : Known) (circuit partition : List ℕ) (capacity : ℕ) (case : Case) : Type 0 where
   pub means : MeansDesign circuit case.design
   pub designed : IsDesign case.design

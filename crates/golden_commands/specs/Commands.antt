@@ -14,8 +14,7 @@ use Rattle.golden_commands.specs.Resumed.{IsResumedText, snap_file_for}
 use Rattle.golden_commands.specs.Saved.{IsSavedText, saved_file_for}
 use Rattle.golden_commands.specs.Run.{IsTextOf, circuit_file, trace_file_for}
 
--- What a command asks of its first two files: their names, and the capacity of the channels that the partition doesn't
--- name.
+-- The first two files of a command: their names, and the capacity of the channels that the partition doesn't name.
 pub record Asked : Type 0 where
   pub circuit : List ℕ
   pub partition : List ℕ
@@ -30,7 +29,7 @@ asking circuit partition capacity = record { circuit = circuit; partition = part
 abbrev pub read_order : Known → Asked → (next : (circuit partition : List ℕ) → Order) → Order
 read_order known asked next = Load (circuit_file asked.circuit) (λ c. Load (partition_file_for known c asked.partition) (next c))
 
--- what a command asks of its first two files, if it has files
+-- the first two files of a command, if it has files
 abbrev pub asked_by : Cmd → Option Asked
 asked_by (Run circuit partition trace capacity workers mono) = Some (asking circuit partition capacity)
 asked_by (Replay circuit partition trace steps capacity) = Some (asking circuit partition capacity)
@@ -57,10 +56,10 @@ known_of models (Demo seed size workers) = to_run models
 known_of models (Save circuit partition trace at capacity workers) = to_save models
 known_of models (Resume circuit partition trace snap capacity workers) = to_save models
 
--- What comes after a circuit and a partition with these bytes: `run` writes the text of the circuit's run on a trace, with the pipes
--- and the bridges that the partition asks for,
--- `replay` that of the marking that the steps of a file lead to, `check` that of the cut. `demo` has no files before its
--- text, the summary of the demo. `save` writes the snapshot of the run before a cycle, `resume` the text of the run from a snapshot on.
+-- What comes after a circuit and a partition with these bytes. `run` writes the text of the circuit's run on a trace, with the pipes and the bridges
+-- of the partition. `replay` writes the text of the marking that the steps of a file lead to, and `check` the text of the cut. `demo` has no files
+-- before its text, the summary of the demo. `save` writes the snapshot of the run before a cycle, and `resume` the text of the run that begins with a
+-- snapshot.
 abbrev pub order_behind : Models → Cmd → (circuit partition : List ℕ) → Order
 order_behind models (Run circuit partition trace capacity workers mono) c p = Load (trace_file_for c p trace) (λ t. Write (IsTextOf (to_run models) c p t))
 order_behind models (Replay circuit partition trace steps capacity) c p =
@@ -71,8 +70,7 @@ order_behind models (Save circuit partition trace at capacity workers) c p = Loa
 order_behind models (Resume circuit partition trace snap capacity workers) c p =
     Load (trace_file_for c p trace) (λ t. Load (snap_file_for (to_save models) c p t snap) (λ s. Write (IsResumedText (to_save models) c p t s)))
 
--- What a command asks of its first two files, and then what comes next. A command without files begins with what comes
--- next, whatever bytes that is given.
+-- The first two files of a command, and then what comes next. A command without files begins with what comes next, and its bytes don't matter.
 abbrev pub order_by : Known → Option Asked → (next : (circuit partition : List ℕ) → Order) → Order
 order_by known (Some asked) next = read_order known asked next
 order_by known None next = next [] []

@@ -10,8 +10,7 @@ use Rattle.gg_rows.specs.Sums.{output_column}
 use Rattle.golden_commands.specs.Partition.{to_run}
 use Rattle.golden_commands.specs.Replay.{IsSetting, Setting, all_steps}
 
--- The capacity of the channels that the partition doesn't name: that of the other commands by default. A demo's partition
--- names all of its channels.
+-- The capacity of the channels that the partition doesn't name: the other commands' default. A demo's partition names all of its channels.
 abbrev pub demo_capacity : ℕ
 demo_capacity = 2
 
@@ -19,9 +18,9 @@ demo_capacity = 2
 abbrev pub IsDemoSetting : (seed size : ℕ) → Setting → Type 0
 IsDemoSetting seed size setting = IsSetting (to_run []) (demo_circuit size) (demo_partition size) (demo_trace seed size) demo_capacity setting
 
--- The summary in a setting: how many machines, channels and steps there are, and the columns that the first two out-signals, y
--- and z, have in the run. That is the circuit's own, since a demo's partition asks for no pipe and no bridge, and its clock
--- has an edge in each cycle, since the partition gives no clocks.
+-- The summary in a setting: how many machines, channels and steps there are, and the columns of the first two out-signals, y and z, in the run. It is
+-- the circuit's own run, because a demo's partition has no pipe and no bridge. Its clock has an edge in each cycle, because the partition gives no
+-- clocks.
 abbrev pub setting_summary : (seed size : ℕ) → Setting → List ℕ
 setting_summary seed size setting =
     demo_summary seed size (length setting.layout.turns) (length setting.layout.links) (all_steps setting)

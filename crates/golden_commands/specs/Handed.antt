@@ -1,6 +1,5 @@
--- The models of the bridges that are handed in to the program, each with the bridge's name, and what its caller owes of them.
--- Source: ICCAD 2019 (bridges: models in the host's own code that stand at a target's ports). The form of a name and the limit are this
--- program's own.
+-- The models of the bridges that are handed in to the program, each with the bridge's name, and what its caller has to ensure about them.
+-- Source: ICCAD 2019 (bridges: models in the host's own code at a target's ports). The form of a name and the limit are this program's own.
 use Rattle.std.specs.Prelude.{◌≡◌, ◌≢◌, ℕ, ◌<◌, ◌≤◌, Bool, true, ◌||◌, ◌==◌, List, All, AllPairs, length, map, sum}
 use Rattle.std.specs.List.{list_all}
 use Rattle.std.specs.Char.{is_ascii_alphanumeric}

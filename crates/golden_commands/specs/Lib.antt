@@ -1,4 +1,4 @@
--- What the contracts of the program speak of.
+-- The definitions for the contracts of the program.
 pub mod Bridges
 pub mod Case
 pub mod Check

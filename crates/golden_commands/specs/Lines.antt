@@ -1,5 +1,5 @@
--- What is reported for words, and for the files of a command. Source: this program's own. The lines are those of
--- docs/FORMATS.md. The `line` of a report is one line, and for words that `clap` refuses, some more behind it.
+-- What is reported for words, and for the files of a command. Source: this program's own. The lines are in
+-- docs/FORMATS.md. The `line` of a report is one line. For words that `clap` refuses, more lines follow in it.
 use Rattle.std.specs.Prelude.{◌≡◌, ◌≢◌, ℕ, List, ◌++◌, ◌∷◌, codes, decimal}
 use Rattle.clap.specs.declared.error.kind.ErrorKind.{ErrorKind}
 use Rattle.clap.specs.declared.error.kind.ErrorKind.TheVariants as kind
@@ -12,11 +12,11 @@ use Rattle.gg_io.specs.Said.{Said, line_of}
 abbrev pub words_said : List ℕ → Said
 words_said text = record { status = 2; line = line_of (codes "golden: words" ++ text) }
 
--- the usage of each command, each on a line of its own, behind the line that says what is wrong
+-- the usage of each command, each on a line of its own, after the line with the fault
 abbrev pub usage : List ℕ
 usage = codes "\nusage: golden run CIRCUIT PARTITION TRACE [--capacity K] [--workers W] [--mono]\nusage: golden replay CIRCUIT PARTITION TRACE STEPS [--capacity K]\nusage: golden check CIRCUIT PARTITION [--capacity K]\nusage: golden demo SEED SIZE [--workers W]\nusage: golden save CIRCUIT PARTITION TRACE AT [--capacity K] [--workers W]\nusage: golden resume CIRCUIT PARTITION TRACE SNAP [--capacity K] [--workers W]"
 
--- this word is one that no command and no argument takes
+-- no command and no argument takes this word
 abbrev pub unexpected_word : List ℕ → Said
 unexpected_word word = words_said (codes ": '" ++ word ++ codes "' is unexpected" ++ usage)
 
@@ -37,7 +37,7 @@ refused_words k = words_said (codes ": " ++ cause_text k ++ usage)
 abbrev pub bad_number : List ℕ → Said
 bad_number value = words_said (codes ": '" ++ value ++ codes "' is not a number in its range: --capacity takes 1 to 4096, --workers 0 to 64, SEED 0 to 4294967295, SIZE 1 to 64, AT 0 to 1000000")
 
--- status 1, and the line that says which fault the circuit has
+-- status 1, and the line with the circuit's fault
 abbrev pub circuit_fault : List ℕ → Said
 circuit_fault text = record { status = 1; line = line_of (codes "golden: circuit: " ++ text) }
 
@@ -45,11 +45,11 @@ circuit_fault text = record { status = 1; line = line_of (codes "golden: circuit
 abbrev pub TellsUnread : ReadFault → Said → Type 0
 TellsUnread fault said = (fault ≢ NoMemory) × (said ≡ circuit_fault (fault_text fault))
 
--- status 6, and the line that says which fault the partition has
+-- status 6, and the line with the partition's fault
 abbrev pub partition_fault : List ℕ → Said
 partition_fault text = record { status = 6; line = line_of (codes "golden: partition: " ++ text) }
 
--- status 7, and the line that says which fault the trace has
+-- status 7, and the line with the trace's fault
 abbrev pub trace_fault : List ℕ → Said
 trace_fault text = record { status = 7; line = line_of (codes "golden: trace: " ++ text) }
 

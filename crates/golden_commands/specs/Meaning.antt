@@ -1,5 +1,5 @@
--- What a circuit, a partition and a trace mean.
--- Source: this program's own, by the crates that read these files (gg_front, gg_partfile, gg_trace) and judge a request (gg_cut_plan).
+-- The meaning of a circuit, a partition and a trace.
+-- Source: this program's own, by the crates that read these files (gg_front, gg_partfile, gg_trace) and check a request (gg_cut_plan).
 use Rattle.std.specs.Prelude.{ℕ, List}
 use Rattle.gg_cut_plan.specs.Held.{AreHeldOnce}
 use Rattle.gg_flat.specs.Circuit.{FlatCircuit}
@@ -20,7 +20,7 @@ pub record Meaning : Type 0 where
   pub cycles : ℕ
   pub columns : List (List ℕ)
 
--- this design, this request, and these columns for so many cycles
+-- this design, this request, and these columns for this many cycles
 abbrev pub meaning_of : Ordered → Request → (cycles : ℕ) → (columns : List (List ℕ)) → Meaning
 meaning_of design request cycles columns = record { design = design; request = request; cycles = cycles; columns = columns }
 
@@ -30,8 +30,8 @@ pub record IsMeaning (known : Known) (circuit partition trace : List ℕ) (meant
   pub cuts : Cuts known meant.design partition meant.request
   pub feeds : Feeds meant.design.circuit meant.request trace meant.cycles meant.columns
 
--- The same for `save` and `resume`. The design is one, it keeps to its tree, and each register is held by exactly one signal. (Each design
--- that `golden` reads is so.)
+-- `IsMeaning` for `save` and `resume`. The design keeps to its tree, and exactly one signal holds each register. (This is so for each design that
+-- `golden` reads.)
 pub record AreMeant (known : Known) (circuit partition trace : List ℕ) (meant : Meaning) : Type 0 where
   pub is : IsMeaning known circuit partition trace meant
   pub designed : IsDesign meant.design
@@ -39,10 +39,10 @@ pub record AreMeant (known : Known) (circuit partition trace : List ℕ) (meant 
   pub held : AreHeldOnce meant.design.circuit
   pub whole : AllHeld meant.design.circuit
 
--- the circuit whose state is saved: the design's, with a register for each pipe that the request asks for
+-- the circuit with the saved state: the design's, with a register for each pipe of the request
 abbrev pub meant_reference : Meaning → FlatCircuit
 meant_reference meant = plan_reference meant.design meant.request
 
--- the values that a snapshot of it has, in the order of the lines
+-- the values of a snapshot of it, in the order of the lines
 abbrev pub meant_values : Meaning → List Row
 meant_values meant = rows_of (meant_reference meant) meant.design.tree

@@ -1,4 +1,4 @@
--- What the network of a cut prints: the text of what its trays get.
+-- The text of the network of a cut, from the values that its trays get.
 -- Sources: MEMOCODE 2009 (the k-th token of each queue is the value of its signal in cycle k, in whatever order the nodes go on);
 -- ICCAD 2019 (sinks at the outputs of a target). The text is this program's own.
 use Rattle.std.specs.Prelude.{◌≡◌, ℕ, List, length, take, drop}
@@ -17,13 +17,12 @@ use Rattle.golden_commands.specs.Partition.{Known, partition_file_for}
 use Rattle.golden_commands.specs.Run.{IsTextOf, circuit_file, trace_file_for}
 use Rattle.golden_commands.specs.RunText.{shown_ports}
 
--- The text of the network of a cut. The bytes of a circuit, a partition and a trace mean a design, a request and columns for some
--- cycles, and the network is that of the request's plan, with this capacity of the channels that the request doesn't name. The text
--- is a header, and a row for each cycle: the values of that cycle that host steps bring to the trays of the top's outputs that no bridge
--- sees. `kept` has a column for each of these, and then for each stop. The last
--- row is that of the first cycle in which a stop acts, if one does: a 1 comes to the tray of the stop for it, and the stop's clock has
--- an edge, by the request's ratios. No other values come to the trays in
--- these cycles, whatever steps are done. The circuit's run isn't spoken of.
+-- The text of the network of a cut. The bytes of a circuit, a partition and a trace mean a design, a request and columns for some cycles. The network
+-- is the network of the request's plan, with this capacity of the channels that the request doesn't name. The text is a header, and a row for each
+-- cycle: the values of that cycle that host steps bring to the trays of the top's outputs that no bridge sees. `kept` has a column for each of these,
+-- and then for each stop. The last row is the row of the first cycle where a stop acts, if one does: a 1 comes to the tray of the stop for it, and
+-- the stop's clock has an edge, by the request's ratios. No other values come to the trays in these cycles, whatever steps are done. The circuit's
+-- run has no part in this definition.
 pub record IsNetworkText (known : Known) (circuit partition trace : List ℕ) (capacity : ℕ) (text : List ℕ) : Type 0 where
   pub meant : Meaning
   pub is_meant : IsMeaning known circuit partition trace meant
@@ -37,8 +36,8 @@ pub record IsNetworkText (known : Known) (circuit partition trace : List ℕ) (c
   pub trays : AreKept meant.design meant.request plan meant.columns meant.cycles told kept
   pub is : text ≡ trace_text (shown_ports meant.design meant.request) (take (length (shown_ports meant.design meant.request)) kept) told
 
--- The files of a circuit, a partition and a trace can have some bytes whose run has a text that was written. It is also the text
--- of the network of their cut, and the only one.
+-- The files of a circuit, a partition and a trace can have some bytes, and a text of the run of these bytes was written. It is also the text of the
+-- network of their cut, and the only one.
 pub record RanNetwork (known : Known) (loads : Loads) (out : Puts) (circuit partition trace : List ℕ) (capacity : ℕ) : Type 0 where
   pub circuit_bytes : List ℕ
   pub partition_bytes : List ℕ

@@ -1,7 +1,7 @@
--- The partition of a command: what its file holds, and which fault it has for a circuit.
+-- The partition of a command: the request in its file, and its fault for a circuit.
 -- Sources: RFC 8259 and ICCAD 2019, as named in the crates that read a partition and check it. The numbers of the
--- faults are this program's own: P1 is a fault of the file, P2 to P16 are faults, for a design and for the models that are
--- handed in, of the request that it holds, and P17 is one of the request for a command.
+-- faults are this program's own: P1 is a fault of the file, P2 to P16 are faults of its request for a design and for the
+-- models that are handed in, and P17 is a fault of the request for a command.
 use Rattle.std.specs.Prelude.{◌≡◌, ◌≢◌, ℕ, Bool, true, false, List, [], Some, None, codes}
 use Rattle.gg_cut_plan.specs.Bridges.{Models}
 use Rattle.gg_cut_plan.specs.Fault as cut
@@ -17,17 +17,17 @@ use Rattle.gg_bits.specs.Limits.{partition_limit}
 use Rattle.golden_commands.specs.Lines.{partition_fault}
 use Rattle.gg_io.specs.Order.{File}
 
--- What is known beside the files: the models that are handed in, each with the name of its bridge, and whether the command is `save` or
--- `resume`. For these two a partition may ask for no bridge.
+-- Facts besides the files: the models that are handed in, each with the name of its bridge, and whether the command is `save` or `resume`. These two
+-- allow no bridge in a partition.
 pub record Known : Type 0 where
   pub models : Models
   pub saves : Bool
 
--- what is known for `save` and `resume`, and for the other commands
+-- what is known for `save` and `resume`
 abbrev pub to_save : Models → Known
 to_save models = record { models = models; saves = true }
 
--- for all other commands
+-- what is known for all other commands
 abbrev pub to_run : Models → Known
 to_run models = record { models = models; saves = false }
 
@@ -38,8 +38,8 @@ pub record Cuts (known : Known) (design : Ordered) (bytes : List ℕ) (request :
   -- a command that saves or resumes allows no bridge
   pub alone : known.saves ≡ true → request.bridges ≡ []
 
--- The bytes have the fault with this text: they hold no request (P1); or this is the first fault that the request that
--- they hold has for the design (P2 to P16); or it has none, and asks for a bridge in a partition for `save` or `resume` (P17).
+-- The bytes have the fault with this text: they hold no request (P1); or this is the first fault of their request for the design (P2 to P16); or
+-- their request has none, and has a bridge for `save` or `resume` (P17).
 pub data HasFault (known : Known) (design : Ordered) (bytes text : List ℕ) : Type 0 where
   OfFile : (key : List ℕ) (wrong : file.IsRefused bytes key) (is : text ≡ file.fault_text (WrongKey key)) → HasFault known design bytes text
   OfRequest : (request : Request) (asks : IsPartition bytes request) (fault : CutFault) (first : cut.first_fault_with design known.models request ≡ Some fault) (is : text ≡ cut.fault_text fault)

@@ -43,33 +43,32 @@ JudgedAt files order said = StopsAt files ⊥ ⊥ order said
 -- A call with these words, where these models are handed in, each with the name of its bridge, returned this status. `loads` are its files,
 -- and what happened when they were loaded; `out` and `err` are the two outputs, before and after it.
 pub record Promised (models : Models) (words : List (List ℕ)) (loads : Loads) (out err : Puts) (status : ℕ) : Type 0 where
-  -- The headline: status, text and line are an outcome of the words and the files. At status 0 the text is that of the
-  -- run of the reference circuit with the models of the bridges that the partition asks for, of the marking that the steps lead to, of the
-  -- cut, or of the demo, and there is no other.
+  -- The headline: status, text and line are an outcome of the words and the files. At status 0 the text is the text of the run of the reference
+  -- circuit with the models of the partition's bridges, of the marking that the steps lead to, of the cut, or of the demo, and there is no other.
   pub outcome : Answered models words loads out err status
-  -- So a `run` of known files with status 0 wrote the text of their run, and there is no other such text.
+  -- A `run` of known files with status 0 wrote the text of their run, and there is no other such text.
   pub run_known : (circuit partition trace : List ℕ) (capacity workers : ℕ) (mono : Bool) (c p t : List ℕ)
       → IsCommand words (Run circuit partition trace capacity workers mono) → status ≡ 0
       → loads.files circuit ≡ Holds c → loads.files partition ≡ Holds p → loads.files trace ≡ Holds t
       → (text : List ℕ) × (out.after ≡ append_known out.before text) × IsOnly (IsTextOf (to_run models) c p t) text
-  -- If the partition asks for no pipe and no bridge and gives no clocks, it is the run of the circuit's own flat circuit, whose clocks have
-  -- an edge in each cycle.
+  -- If the partition has no pipe, no bridge and no clocks, it is the run of the circuit's own flat circuit. Each clock then has an edge in each
+  -- cycle.
   pub run_plain : (circuit partition trace : List ℕ) (capacity workers : ℕ) (mono : Bool) (c p t : List ℕ) (request : Request)
       → IsCommand words (Run circuit partition trace capacity workers mono) → status ≡ 0
       → loads.files circuit ≡ Holds c → loads.files partition ≡ Holds p → loads.files trace ≡ Holds t
       → IsPartition p request → request.pipe ≡ [] → request.clocks ≡ [] → request.bridges ≡ []
       → (text : List ℕ) × (out.after ≡ append_known out.before text) × IsPlainText c t text
-  -- `run` without `--mono`: at status 0 the text is also that of the network of the cut, for the same bytes of the files, and the
-  -- network has no other. It isn't claimed of a call with `--mono`.
+  -- `run` without `--mono`: at status 0 the text is also the text of the network of the cut, for the same bytes of the files, and the network has no
+  -- other. It isn't claimed of a call with `--mono`.
   pub by_network : (circuit partition trace : List ℕ) (capacity workers : ℕ) → IsCommand words (Run circuit partition trace capacity workers false) → status ≡ 0
       → RanNetwork (to_run models) loads out circuit partition trace capacity
-  -- `replay`: at status 0 the text is also that of the network to which the steps lead the network of the cut, for the same bytes of the
-  -- files, and there is no other. At status 9 what is reported is the cause for which that network refuses the step.
+  -- `replay`: at status 0 the text is also the text of the network that the steps lead to from the network of the cut, for the same bytes of the
+  -- files, and there is no other. At status 9 the reported cause is why that network refuses the step.
   pub by_steps : (circuit partition trace steps : List ℕ) (capacity : ℕ) → IsCommand words (Replay circuit partition trace steps capacity)
       → (said : Said) × Tells err status said × ToldByNetwork (to_run models) loads.files out circuit partition trace steps capacity said
-  -- `resume` after `save`: of known files, of which the snapshot has the text that `save` writes under a partition that asks for the same
-  -- pipes and gives the clocks the same ratios, whatever its units, its memories, its direct channels and its capacities, it writes the
-  -- header and the rows from the saved cycle on of the text that `run` writes.
+  -- `resume` after `save`, on known files: the snapshot has the text that `save` writes under a partition with the same pipes and ratios, whatever
+  -- its units, its memories, its direct channels and its capacities. Then `resume` writes the header of the text that `run` writes, and its rows
+  -- starting at the saved cycle.
   pub resumed : (loads.lost → ⊥) → (out.failed → ⊥) → (circuit partition trace snap : List ℕ) (capacity workers : ℕ) (c p q t s whole : List ℕ) (one other : Request) (at : ℕ)
       → IsCommand words (Resume circuit partition trace snap capacity workers)
       → loads.files circuit ≡ Holds c → length c ≤ circuit_limit
@@ -93,7 +92,7 @@ pub record Promised (models : Models) (words : List (List ℕ)) (loads : Loads) 
   -- status.
   pub due : (loads.lost → ⊥) → (command : Cmd) (due : Said) → IsCommand words command → DueAt loads.files (order_of models command) due
       → ((status ≡ due.status) × ((said : Said) × DueAt loads.files (order_of models command) said × Tells err status said)) ⊎ (status ≡ 5)
-  -- So a known circuit's file with a fault of reading is refused with that fault, for any other files.
+  -- A known circuit's file with a fault of reading is refused with that fault, for any other files.
   pub unread : (loads.lost → ⊥) → (command : Cmd) (asked : Asked) (bytes : List ℕ) (fault : ReadFault) (said : Said)
       → IsCommand words command → asked_by command ≡ Some asked → loads.files asked.circuit ≡ Holds bytes → length bytes ≤ circuit_limit
       → HasReadFault bytes fault → TellsUnread fault said → Tells err status said ⊎ (status ≡ 5)

@@ -1,4 +1,4 @@
--- What a circuit, a partition and a trace mean, the file of steps, and the text that `replay` writes.
+-- The meaning of a circuit, a partition and a trace, the file of steps, and the text that `replay` writes.
 -- Sources: MEMOCODE 2009 (the k-th token of each channel is the value of its signal in cycle k, in any order of steps).
 -- The lines and the forms of a steps file are this program's own.
 use Rattle.std.specs.Prelude.{◌≡◌, ◌↔◌, ℕ, ◌+◌, ◌-◌, ◌*◌, ◌<◌, List, [], None, Option, Result, Ok, Err, flat_map, if◌then◌else◌, length, map, slice_index_or, take}
@@ -37,16 +37,15 @@ use Rattle.golden_commands.specs.Meaning.{IsMeaning, Meaning}
 use Rattle.golden_commands.specs.Partition.{Known}
 use Rattle.golden_commands.specs.RunText.{IsRunBy}
 
--- ---- what a circuit, a partition and a trace mean
+-- ---- the meaning of a circuit, a partition and a trace
 
--- What the files mean, the run on the columns of the reference circuit with the models of the bridges, and the layout of the request's cut.
+-- The meaning of the files, the run on the columns of the reference circuit with the models of the bridges, and the layout of the request's cut.
 pub record Setting : Type 0 where
   pub meant : Meaning
   pub rows : List (List ℕ)
   pub layout : Layout
 
--- The bytes of a circuit, a partition and a trace mean this. `capacity` is that of the channels that the request
--- doesn't name.
+-- The bytes of a circuit, a partition and a trace mean this. `capacity` is the capacity of the channels that the request doesn't name.
 pub record IsSetting (known : Known) (circuit partition trace : List ℕ) (capacity : ℕ) (setting : Setting) : Type 0 where
   pub is : IsMeaning known circuit partition trace setting.meant
   pub run : IsRunBy setting.meant.design setting.meant.request known.models setting.meant.columns setting.meant.cycles setting.rows
@@ -54,8 +53,7 @@ pub record IsSetting (known : Known) (circuit partition trace : List ℕ) (capac
 
 -- ---- names
 
--- the names of a machine's ports, by number: for a listed memory those of its readers, then those of its writers; else
--- none
+-- the names of a machine's ports, by number: for a listed memory first its readers' and then its writers', otherwise none
 abbrev pub port_names : InstanceTree → Listed → ℕ → List (List ℕ)
 port_names tree listed m = if is_memory listed m then (memory_at tree (value_at listed.memories (m - first_memory listed))).ports else []
 
@@ -68,7 +66,7 @@ naming_by design request listed wires =
       ports = map (port_names design.tree listed) (range_with_len 0 (machine_end (plan_bridges design.circuit design.tree request)));
     }
 
--- the names of a request's cut, whose channels are those of the plan
+-- the names of a request's cut, with the channels of its plan
 abbrev pub naming_of : Ordered → Request → Naming
 naming_of design request = naming_by design request (listed_of design.tree request) (plan_wires design.circuit design.tree request)
 
@@ -87,11 +85,11 @@ AreDone known circuit partition trace capacity steps =
 abbrev pub stopped_by : Naming → (events : List (Option Event)) → Stopped → Said
 stopped_by naming events stopped = step_fault stopped.step (cause_text naming (slice_index_or events (stopped.step - 1) None) stopped.cause)
 
--- the same with the names of the setting's cut
+-- what is reported for a refused step, with the names of the setting's cut
 abbrev pub stopped_said : Setting → (steps : List ℕ) → Stopped → Said
 stopped_said setting steps stopped = stopped_by (naming_of setting.meant.design setting.meant.request) (steps_of (naming_of setting.meant.design setting.meant.request) steps) stopped
 
--- this is reported for steps of which one is refused
+-- this is reported for steps if one of them is refused
 abbrev pub TellsSteps : Known → (circuit partition trace : List ℕ) (capacity : ℕ) (steps : List ℕ) → Said → Type 0
 TellsSteps known circuit partition trace capacity steps said =
     (setting : Setting) × IsSetting known circuit partition trace capacity setting

@@ -37,7 +37,7 @@ case_naming case = plan_naming case.cut.plan case.design.tree
 
 -- ---- lines
 
--- the name and the width of channel c of a plan
+-- the name of channel c of a plan
 abbrev pub name_in : Plan → ℕ → List ℕ
 name_in plan c = path_at (map (λ channel. channel.name) plan.channels) c
 
@@ -55,7 +55,7 @@ net_text plan flow net = flat_map (net_line plan flow net) (range_with_len 0 (le
 
 -- ---- steps
 
--- what the plan's network computes on the trace, with these models
+-- the flow of the plan's network on the trace, with these models
 abbrev pub fed_flow : Models → Fed → Flow
 fed_flow models fed = flow_along fed.case.design fed.case.cut.request models fed.case.cut.plan fed.trace.columns fed.trace.rows
 

@@ -23,12 +23,12 @@ use Rattle.golden_commands.specs.RunText.{columns_of, outputs_kept, shown_ports,
 
 -- ---- the file of a snapshot
 
--- the bytes are the text of a snapshot of the reference circuit, before a cycle that is at most the number of the trace's
+-- the bytes are the text of a snapshot of the reference circuit, before a cycle that is at most the trace's number of rows
 abbrev pub CanBeResumed : Known → (circuit partition trace snap : List ℕ) → Type 0
 CanBeResumed known circuit partition trace snap =
     (meant : Meaning) × (cycle : ℕ) × (state : State) × AreMeant known circuit partition trace meant × IsSnap (meant_reference meant) meant.design.tree snap cycle state × (cycle ≤ meant.cycles)
 
--- this is reported for bytes that aren't the text of such a snapshot: their first line that can't stand
+-- this is reported for bytes that aren't the text of a snapshot: their first line that can't be in one
 abbrev pub TellsNoSnap : Known → (circuit partition trace snap : List ℕ) → Said → Type 0
 TellsNoSnap known circuit partition trace snap said =
     (meant : Meaning) × (line : ℕ) × AreMeant known circuit partition trace meant × IsFirstFault (meant_reference meant) meant.design.tree snap line × (said ≡ snap_fault (fault_words (S1 line)))
@@ -55,8 +55,8 @@ snap_file_for known circuit partition trace name =
 abbrev pub start_at : Meaning → (cycle : ℕ) → State → Start
 start_at meant cycle state = record { cycle = cycle; state = state; ratios = ratios_of meant.design.tree meant.request }
 
--- What the files of a circuit, a partition, a trace and a snapshot mean: the snapshot has this cycle and this state and no other, and these
--- are the rows of the run from there, by cycle. For `resume` a partition asks for no bridge, so it is a run of the reference circuit.
+-- The meaning of the files of a circuit, a partition, a trace and a snapshot: the snapshot has this cycle and this state and no other, and these are
+-- the rows of the run from there, by cycle. For `resume` a partition has no bridge, and so it is a run of the reference circuit.
 pub record HasRest (known : Known) (circuit partition trace snap : List ℕ) (meant : Meaning) (cycle : ℕ) (state : State) (rows : List (List ℕ)) : Type 0 where
   pub are : AreMeant known circuit partition trace meant
   pub reads : IsSnap (meant_reference meant) meant.design.tree snap cycle state
@@ -64,7 +64,7 @@ pub record HasRest (known : Known) (circuit partition trace snap : List ℕ) (me
   pub within : cycle ≤ meant.cycles
   pub run : AreRows (meant_reference meant) (start_at meant cycle state) meant.columns meant.cycles rows
 
--- how many cycles from the snapshot's on have a row: those up to the first in which a stop acts, or all
+-- how many cycles, starting at the snapshot's, have a row: up to the first where a stop acts, or all
 abbrev pub rest_rows : Meaning → (cycle : ℕ) → (rows : List (List ℕ)) → ℕ
 rest_rows meant cycle rows =
     row_count (λ k. halts (plan_stops meant.design meant.request) (columns_of (stops_kept meant.design meant.request) rows) (cycle + k)) (meant.cycles - cycle)
@@ -74,14 +74,14 @@ abbrev pub rest_text : Meaning → (cycle : ℕ) → (rows : List (List ℕ)) �
 rest_text meant cycle rows =
     text_from (shown_ports meant.design meant.request) (columns_of (outputs_kept meant.design meant.request) rows) cycle (rest_rows meant cycle rows)
 
--- the text of the run from a snapshot on
+-- the text of the run that begins with a snapshot
 abbrev pub IsResumedText : Known → (circuit partition trace snap text : List ℕ) → Type 0
 IsResumedText known circuit partition trace snap text =
     (meant : Meaning) × (cycle : ℕ) × (state : State) × (rows : List (List ℕ)) × HasRest known circuit partition trace snap meant cycle state rows × (text ≡ rest_text meant cycle rows)
 
--- ---- what `resume` writes after `save`
+-- ---- `resume` after `save`
 
--- two requests ask for the same pipes, in any order
+-- two requests have the same pipes, in any order
 abbrev pub HaveSamePipes : Request → Request → Type 0
 HaveSamePipes one other = (name : List ℕ) → Contains one.pipe name ↔ Contains other.pipe name
 
@@ -89,7 +89,7 @@ HaveSamePipes one other = (name : List ℕ) → Contains one.pipe name ↔ Conta
 abbrev pub HaveSameRatios : Request → Request → Type 0
 HaveSameRatios one other = (clock : List ℕ) → ratio_of one.clocks clock ≡ ratio_of other.clocks clock
 
--- A text is the rest of another from cycle `at` on: the header, and the rows from that of cycle `at` on.
+-- A text is the rest of another: the header, and the rows starting at cycle `at`.
 pub record IsRestOf (at : ℕ) (whole text : List ℕ) : Type 0 where
   pub ports : List Port
   pub columns : List (List ℕ)

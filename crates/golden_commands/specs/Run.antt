@@ -44,7 +44,7 @@ TellsTraceOf flat request trace said = (fault : TraceFault) × IsFirstFault (fed
 abbrev pub trace_file : (name : List ℕ) (IsTrace : List ℕ → Type 0) (TellsFault : List ℕ → Said → Type 0) → File
 trace_file name IsTrace TellsFault = record { name = name; limit = trace_limit; accepts = IsTrace; refuses = TellsFault }
 
--- a trace of the inputs of the circuit that these bytes mean, without those that the bridges of the partition drive
+-- a trace of the inputs of the circuit that these bytes mean, without the inputs that the partition's bridges drive
 abbrev pub IsTraceFor : (circuit partition trace : List ℕ) → Type 0
 IsTraceFor circuit partition trace =
     (flat : FlatCircuit) × Means circuit flat × ((request : Request) × IsPartition partition request × IsTraceOf flat request trace)
@@ -64,10 +64,10 @@ abbrev pub IsTextOf : Known → (circuit partition trace text : List ℕ) → Ty
 IsTextOf known circuit partition trace text =
     (design : Ordered) × MeansDesign circuit design × ((request : Request) × IsPartition partition request × IsRunText design request known.models trace text)
 
--- The text of the run of the flat circuit that these bytes mean, as it stands, on this trace. The trace gives the columns of the
--- circuit's inputs for some cycles, and `rows` is its run on them, in which each clock has an edge in each cycle. The text is a header,
--- and a row for each cycle up to the first in which the condition of a stop is 1: the values of the top's outputs. A partition that asks
--- for no pipe and no bridge and gives no clocks leaves the run so.
+-- The text of the run of the flat circuit that these bytes mean, without pipes and bridges, on this trace. The trace gives the columns of the
+-- circuit's inputs for some cycles. `rows` is its run on them, where each clock has an edge in each cycle. The text is a header, and a row for each
+-- cycle up to the first where the condition of a stop is 1: the values of the top's outputs. A partition without pipes, bridges and clocks leaves the
+-- run so.
 pub record IsPlainText (circuit trace text : List ℕ) : Type 0 where
   pub design : Ordered
   pub means : MeansDesign circuit design

@@ -1,7 +1,7 @@
--- The text of the run of a design on a trace, with the pipes, the clocks and the bridges of a request: what `run` writes.
--- Source: ICCAD 2019 (Golden Gate) for target cycles as rows; FIRRTL Specification for what a cycle is (crate gg_flat). MEMOCODE 2009
--- (a buffer with a token in it at the start) for pipes, by which gg_cut_reference defines the reference circuit. Ratios of clocks are this
--- program's own (gg_flat's `edge`). ICCAD 2019 too for bridges, by which gg_cut_reference defines the circuit with their models.
+-- The text that `run` writes: the text of the run of a design on a trace, with the pipes, the clocks and the bridges of a request.
+-- Source: ICCAD 2019 (Golden Gate) for target cycles as rows, and for bridges; FIRRTL Specification for what a cycle is (crate gg_flat). MEMOCODE
+-- 2009 (a buffer with a token in it at the start) for pipes. gg_cut_reference defines the reference circuit with pipes, and the circuit with the
+-- models of bridges. Ratios of clocks are this program's own (gg_flat's `edge`).
 use Rattle.std.specs.Prelude.{◌≡◌, ℕ, List, filter, map, not}
 use Rattle.gg_flat.specs.Circuit.{FlatCircuit}
 use Rattle.gg_flat.specs.Run.{IsRunFrom, clocked_start, column}
@@ -34,7 +34,7 @@ columns_of signals rows = map (column rows) signals
 
 -- ---- the ports that no bridge has
 
--- those of these ports that have none of these names
+-- the ports without any of these names
 abbrev pub ports_without : List (List ℕ) → List Port → List Port
 ports_without names ports = filter (λ port. not (is_among names port.name)) ports
 
@@ -75,15 +75,15 @@ outputs_kept design request = map (taken_as (plan_hub design.circuit design.tree
 abbrev pub stops_kept : Ordered → Request → List ℕ
 stops_kept design request = map (taken_as (plan_hub design.circuit design.tree request)) (stop_signals design.tree)
 
--- The run from cycle 0 on, with zeros, of the reference circuit of a request with the models of its bridges. `columns` are those of the
--- inputs that no bridge drives. Each clock has an edge in the ticks that the ratio tells which the request gives it, and in each tick if the
--- request gives none.
+-- The run of the reference circuit of a request with the models of its bridges, starting at cycle 0 with zeros. `columns` are the columns of the
+-- inputs that no bridge drives. Each clock has an edge in the ticks of the ratio that the request gives it, and in each tick if the request gives
+-- none.
 abbrev pub IsRunBy : Ordered → Request → Models → (columns : List (List ℕ)) → (n : ℕ) → (rows : List (List ℕ)) → Type 0
 IsRunBy design request models columns n rows =
     IsRunFrom (plan_circuit design request models) (clocked_start (plan_circuit design request models) (ratios_of design.tree request)) columns n rows
 
--- How many of the n cycles of such a run have a row: those up to the first cycle in which a stop acts, or all if
--- none does. A stop acts if its condition is 1 in a cycle in which its clock has an edge.
+-- How many of the n cycles of such a run have a row: up to the first cycle where a stop acts, or all if none does. A stop acts in a cycle if its
+-- condition is 1 and its clock has an edge.
 abbrev pub run_rows : Ordered → Request → (rows : List (List ℕ)) → (n : ℕ) → ℕ
 run_rows design request rows n = row_count (halts (plan_stops design request) (columns_of (stops_kept design request) rows)) n
 
@@ -91,11 +91,10 @@ run_rows design request rows n = row_count (halts (plan_stops design request) (c
 abbrev pub run_text : Ordered → Request → (rows : List (List ℕ)) → (n : ℕ) → List ℕ
 run_text design request rows n = trace_text (shown_ports design request) (columns_of (outputs_kept design request) rows) (run_rows design request rows n)
 
--- The text of the run of a design with the pipes, the clocks and the bridges of a request. The trace gives the columns of the circuit's
--- inputs that no bridge drives for some cycles, and `rows` is the run on them of the reference circuit with the bridges' models.
--- The reference circuit has the same inputs as the circuit, and it is the
--- circuit itself if the request asks for no pipe (gg_cut_reference's law `nothing_piped`). A stop ends the text, but not the run that is spoken
--- of: its condition is printed nowhere.
+-- The text of the run of a design with the pipes, the clocks and the bridges of a request. The trace gives the columns of the circuit's inputs that
+-- no bridge drives for some cycles, and `rows` is the run on them of the reference circuit with the bridges' models. The reference circuit has the
+-- same inputs as the circuit, and it is the circuit itself if the request has no pipe (gg_cut_reference's law `nothing_piped`). A stop ends the text,
+-- but not the run in this definition: its condition is printed nowhere.
 pub record IsRunText (design : Ordered) (request : Request) (models : Models) (trace text : List ℕ) : Type 0 where
   pub cycles : ℕ
   pub columns : List (List ℕ)

@@ -22,8 +22,7 @@ abbrev pub save_limit : Meaning → (rows : List (List ℕ)) → ℕ
 save_limit meant rows =
     if run_rows meant.design meant.request rows meant.cycles == meant.cycles then meant.cycles else run_rows meant.design meant.request rows meant.cycles - 1
 
--- What the three files mean, with the run on the trace. For `save` a partition asks for no bridge, so it is that of the reference
--- circuit.
+-- The meaning of the three files, with the run on the trace. For `save` a partition has no bridge, and so it is a run of the reference circuit.
 pub record HasRun (known : Known) (circuit partition trace : List ℕ) (meant : Meaning) (rows : List (List ℕ)) : Type 0 where
   pub are : AreMeant known circuit partition trace meant
   pub run : IsRunBy meant.design meant.request known.models meant.columns meant.cycles rows
@@ -37,7 +36,7 @@ abbrev pub TellsFew : Known → (circuit partition : List ℕ) (at : ℕ) (trace
 TellsFew known circuit partition at trace said =
     (meant : Meaning) × (rows : List (List ℕ)) × HasRun known circuit partition trace meant rows × (save_limit meant rows < at) × (said ≡ few_rows at (save_limit meant rows))
 
--- the file of a trace for a circuit and a partition whose run is to be saved before cycle `at`
+-- the file of a trace for a circuit and a partition, if the run is to be saved before cycle `at`
 abbrev pub saved_file_for : Known → (circuit partition : List ℕ) (at : ℕ) (name : List ℕ) → File
 saved_file_for known circuit partition at name =
     trace_file name (CanBeSaved known circuit partition at) (λ trace said. TellsTraceFor circuit partition trace said ⊎ TellsFew known circuit partition at trace said)

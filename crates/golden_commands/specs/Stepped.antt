@@ -1,4 +1,4 @@
--- What the network of a cut tells of the steps of a file: the text of the state to which they lead, or why one may not be done.
+-- The steps of a file on the network of a cut: the text of the state that they lead to, or why one may not be done.
 -- Sources: MEMOCODE 2009 (a network goes on by steps, one node at a time, and the k-th token of each channel is the value of its signal in
 -- cycle k). The text is this program's own.
 use Rattle.std.specs.Prelude.{◌≡◌, ℕ, List}
@@ -15,26 +15,26 @@ use Rattle.golden_commands.specs.Replayed.{IsNetText, TellsStop, case_naming, fe
 use Rattle.golden_commands.specs.Run.{circuit_file, trace_file_for}
 use Rattle.golden_commands.specs.declared.case.Fed.{Fed}
 
--- ---- of bytes
+-- ---- bytes
 
 -- The bytes of a circuit, a partition and a trace mean what `fed` has: a design, the plan of its cut, with this capacity of the channels that the
--- request doesn't name, and columns for some cycles. The steps that the bytes of a steps file spell, done one after another from the
--- plan's network before its first cycle on, lead to a network with this text. No marking and no run of a simulator is spoken of.
+-- request doesn't name, and columns for some cycles. The steps that the bytes of a steps file spell, done one after another on the plan's network
+-- before its first cycle, lead to a network with this text. No marking and no run of a simulator has a part in this definition.
 pub record IsSteppedText (known : Known) (circuit partition trace : List ℕ) (capacity : ℕ) (steps text : List ℕ) : Type 0 where
   pub fed : Fed
   pub means : IsFed known circuit partition trace capacity fed
   pub is : IsNetText fed (fed_flow known.models fed) (steps_of (case_naming fed.case) steps) text
 
--- One of the steps may not be done in the network to which those before it lead, and this is reported for it.
+-- One of the steps may not be done in the network that the steps before it lead to, and this is reported for it.
 pub record TellsRefusedStep (known : Known) (circuit partition trace : List ℕ) (capacity : ℕ) (steps : List ℕ) (said : Said) : Type 0 where
   pub fed : Fed
   pub means : IsFed known circuit partition trace capacity fed
   pub tells : TellsStop fed (fed_flow known.models fed) (case_naming fed.case) (steps_of (case_naming fed.case) steps) said
 
--- ---- of files
+-- ---- files
 
--- The steps file can have some bytes. A text was written that is the text of their steps, and that of the network to which they lead.
--- Each has no other.
+-- The steps file can have some bytes. A text was written that is the text of their steps, and the text of the network that they lead to. Each has no
+-- other.
 pub record WroteSteps (known : Known) (files : List ℕ → Told) (out : Puts) (circuit partition trace : List ℕ) (capacity : ℕ) (steps : List ℕ) : Type 0 where
   pub steps_bytes : List ℕ
   pub at_steps : CanBe files (steps_file_for known circuit partition trace capacity steps) steps_bytes
@@ -43,13 +43,13 @@ pub record WroteSteps (known : Known) (files : List ℕ → Told) (out : Puts) (
   pub of_steps : IsOnly (IsReplayOf known circuit partition trace capacity steps_bytes) text
   pub of_network : IsOnly (IsSteppedText known circuit partition trace capacity steps_bytes) text
 
--- The steps file can have some bytes for which the network reports this.
+-- The steps file can have some bytes, and the network reports this for their steps.
 pub record RefusedStep (known : Known) (files : List ℕ → Told) (circuit partition trace : List ℕ) (capacity : ℕ) (steps : List ℕ) (said : Said) : Type 0 where
   pub steps_bytes : List ℕ
   pub at_steps : CanBe files (steps_file_for known circuit partition trace capacity steps) steps_bytes
   pub of_network : TellsRefusedStep known circuit partition trace capacity steps_bytes said
 
--- The files of a circuit, a partition and a trace can have some bytes of which this holds.
+-- The files of a circuit, a partition and a trace can have some bytes with this property.
 pub record OfFiles (known : Known) (files : List ℕ → Told) (circuit partition trace : List ℕ) (Holds : (circuit partition trace : List ℕ) → Type 0) : Type 0 where
   pub circuit_bytes : List ℕ
   pub partition_bytes : List ℕ
@@ -59,7 +59,7 @@ pub record OfFiles (known : Known) (files : List ℕ → Told) (circuit partitio
   pub at_trace : CanBe files (trace_file_for circuit_bytes partition_bytes trace) trace_bytes
   pub holds : Holds circuit_bytes partition_bytes trace_bytes
 
--- What a call of `replay` with these files reported with status 0 or 9: the network of the cut tells the same.
+-- The report of a call of `replay` with these files and with status 0 or 9. The network of the cut reports the same.
 pub record ToldByNetwork (known : Known) (files : List ℕ → Told) (out : Puts) (circuit partition trace steps : List ℕ) (capacity : ℕ) (said : Said) : Type 0 where
   pub wrote : said.status ≡ 0 → OfFiles known files circuit partition trace (λ c p t. WroteSteps known files out c p t capacity steps)
   pub refused : said.status ≡ 9 → OfFiles known files circuit partition trace (λ c p t. RefusedStep known files c p t capacity steps said)

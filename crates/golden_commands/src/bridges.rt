@@ -42,7 +42,7 @@ impl From<AllocError> for HandFault {
     }
 }
 
-/// Bridges to hand in, each with its name. They can be handed in to `golden_with` (`CanHandIn`): nothing is owed of them any more.
+/// Bridges to hand in, each with its name. They meet all that `golden_with` requires of bridges (`CanHandIn`).
 pub struct Bridges<B: Bridge + Drop> {
     named: Vec<(Name, B)>,
     // How many signals their models have together.
@@ -129,8 +129,8 @@ impl<B: Bridge + Drop> Bridges<B> {
     ///
     /// # Errors
     ///
-    /// Returns the first `HandFault` of `Name`, `Taken`, `TooLarge`, exactly if there is one, or `NoMemory` if an allocation fails. The bridge is then
-    /// given up, and the others stay.
+    /// Returns the first `HandFault` of `Name`, `Taken`, `TooLarge`, exactly if there is one, or `NoMemory` if an allocation fails. The bridge is
+    /// then dropped, and the others stay.
     pub fn add(&mut self, alloc: Global, name: &str, bridge: B) -> Result<(), HandFault>
         requires { B.state bridge ≡ opening (B.piece bridge) }
         ensures fault { Tells said_by (hand_fault B.piece self.old name.now bridge) result }
@@ -147,7 +147,7 @@ impl<B: Bridge + Drop> Bridges<B> {
         }
     }
 
-    /// The bridges in the order in which they were added.
+    /// The bridges, in the order of their `add` calls.
     pub fn into_list(self) -> Vec<(Name, B)>
         ensures same { result.items ≡ self }
         ensures can { CanHandIn B.piece B.state result.items }

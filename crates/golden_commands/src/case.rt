@@ -1,4 +1,4 @@
-//! What the first files of a command hold: a circuit and the cut that a partition asks for, and a trace.
+//! The first files of a command: a circuit, a partition with its cut, and a trace.
 ghost use Rattle.std.specs.Prelude.{◌≡◌, ◌≤◌, IfOk, IfErr};
 ghost use Rattle.gg_words.specs.Range.{IsCapacity};
 ghost use Rattle.golden_commands.specs.inside.Case.{CaseRead, FedRead, case_order, trace_order};
@@ -33,7 +33,7 @@ impl Drop for Case {
     }
 }
 
-/// The same, and a trace of the circuit's inputs.
+/// A design and a cut of it, and a trace of the circuit's inputs.
 pub struct Fed {
     /// The design and the cut.
     pub case: Case,
@@ -50,7 +50,7 @@ impl Drop for Fed {
 }
 
 impl Fed {
-    /// The same, with the first rows of the trace alone. Does not allocate.
+    /// The same case, with only the first rows of the trace. Does not allocate.
     pub fn upto(self, rows: u64) -> Fed
         requires { rows ≤ self.trace.rows }
         ensures { result ≡ upto rows self }
@@ -63,7 +63,7 @@ impl Fed {
     }
 }
 
-// Reads a circuit and a partition. These models of bridges are known, and `saves` tells whether the command is `save` or `resume`.
+/// Reads a circuit and a partition. These models of bridges are known, and `saves` is whether the command is `save` or `resume`.
 ///
 /// # Errors
 ///
@@ -86,13 +86,13 @@ pub fn read_case<S: Shelf>(
 {
     let design = load_circuit(alloc, shelf, circuit)?;
     let cut = read_cut(alloc, shelf, partition, &design, models, saves, capacity)?;
-    // for the invariant alone
+    // for the invariant only
     let _ = design.order();
     let _ = design.piece();
     Ok(Case { design, cut })
 }
 
-// Reads a circuit, a partition and a trace.
+/// Reads a circuit, a partition and a trace.
 ///
 /// # Errors
 ///
@@ -118,7 +118,7 @@ pub fn read_fed<S: Shelf>(
 {
     let case = read_case(alloc, shelf, circuit, partition, models, saves, capacity)?;
     let inputs = read_inputs(alloc, shelf, trace, &case.design, &case.cut.request)?;
-    // for the invariant alone: the limit on rows
+    // for the invariant only: the limit on rows
     let _ = inputs.rows();
     Ok(Fed {
         case,

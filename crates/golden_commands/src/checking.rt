@@ -60,7 +60,7 @@ fn print_channels<K: Sink>(
     Ok(())
 }
 
-// Prints a plan: the lines of its machines, then the lines of its channels.
+/// Prints a plan: the lines of its machines, then the lines of its channels.
 ///
 /// # Errors
 ///

@@ -22,7 +22,7 @@ fn add_model<B: Bridge>(models: &mut Models, name: &Name, bridge: &B) -> Result<
     }
 }
 
-// Copies of the models of these bridges, each with its bridge's name.
+/// Copies of the models of these bridges, each with its bridge's name.
 ///
 /// # Errors
 ///

@@ -1,7 +1,7 @@
-//! What the commands of golden speak of, read and print.
+//! The commands of golden: their definitions, their files, and the texts that they print.
 //!
-//! `specs/` has all definitions of golden: which file is accepted and what is reported for another, the text of each command and when it
-//! is right, the order in which a command loads its files, and what a call promises (`Promised`). golden's commands meet them.
+//! `specs/` has all definitions of golden: which file is accepted and what is reported for another, the text of each command and when it is right,
+//! the order of a command's files, and what a call promises (`Promised`). golden's commands meet them.
 //!
 //! - Read: `read_case` reads a circuit and a partition and returns the design with its cut, a [`Case`]; `read_fed` reads a trace too and
 //!   returns a [`Fed`]. Both load one file after another, and return what is reported for the first one that is refused. `models_of` gives
@@ -10,7 +10,7 @@
 //! - Printed: `print_run` prints a run by the simulator, and `print_fed` from the network of the cut. `replay_net` does steps on that
 //!   network and prints the tokens of each channel. `print_plan` prints the machines and the channels of a cut.
 //! - Handed in: [`Bridges`] are bridges that can be handed in, each with its name.
-//! - Reported: `end_at_words`, `end_at_snap` and `end_few` say what is reported for words and for snapshots.
+//! - Reported: `end_at_words`, `end_at_snap` and `end_few` make the reports for words and for snapshots.
 #![tactic(auto)]
 
 mod bridges;

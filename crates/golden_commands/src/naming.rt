@@ -55,7 +55,7 @@ fn add_machines<'a>(
     Ok(())
 }
 
-// The names of a plan's channels, of its machines, and of the ports of its listed memories.
+/// The names of a plan's channels, of its machines, and of the ports of its listed memories.
 ///
 /// # Errors
 ///

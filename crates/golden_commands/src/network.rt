@@ -108,7 +108,7 @@ fn end_at_step(
     }
 }
 
-// Does these steps on the network of the plan, and prints a line for each channel.
+/// Does these steps on the network of the plan, and prints a line for each channel.
 ///
 /// # Errors
 ///

@@ -1,4 +1,4 @@
-//! Reading of the partition's file, and the cut of the circuit that it asks for.
+//! Reading of the partition's file, and the cut of its request.
 ghost use Rattle.std.specs.Prelude.{◌≡◌, ◌≢◌, ◌≤◌, ◌++◌, ℕ, List, [], IfOk, IfErr, Some, None, codes, length, string_bytes, true};
 ghost use Rattle.gg_cut_plan.specs.Fault as cut;
 ghost use Rattle.gg_cut_plan.specs.Held.{AreHeldOnce};
@@ -58,7 +58,7 @@ fn file_text(alloc: Global, fault: &PartFault) -> Result<String, AllocError>
     format!(in alloc; "{fault}")
 }
 
-// The ending for a partition whose file has this fault.
+// The ending for a partition's file with this fault.
 fn end_at_file(alloc: Global, fault: &PartFault) -> Ending
     ensures { IfRefused (λ said. (fault.now ≢ file_fault.NoMemory) × (said ≡ partition_fault (file.fault_text fault.now))) result }
 {
@@ -78,7 +78,7 @@ fn request_text(alloc: Global, fault: &CutFault) -> Result<String, AllocError>
     format!(in alloc; "{fault}")
 }
 
-// The ending for a partition whose request has this fault.
+// The ending for a partition's request with this fault.
 fn end_at_request(alloc: Global, fault: &CutFault) -> Ending
     ensures { IfRefused (λ said. (fault.now ≢ cut_fault.NoMemory) × (said ≡ partition_fault (cut.fault_text fault.now))) result }
 {
@@ -91,7 +91,7 @@ fn end_at_request(alloc: Global, fault: &CutFault) -> Ending
     }
 }
 
-// The request that the bytes of a partition's file hold.
+/// The request that the bytes of a partition's file hold.
 ///
 /// # Errors
 ///
@@ -108,7 +108,7 @@ pub fn request_of(alloc: Global, bytes: &[u8]) -> Result<Request, Ending>
     }
 }
 
-// The cut of a design that a request asks for, if the request has no fault. These models of bridges are known.
+/// The cut of a design by a request, if the request has no fault. These models of bridges are known.
 ///
 /// # Errors
 ///
@@ -136,7 +136,7 @@ pub fn cut_request(
     }
 }
 
-// A cut, if its partition may be one for the command: that for `save` or `resume` asks for no bridge.
+// A cut, if the command allows its partition: `save` and `resume` allow no bridge.
 fn allowed(alloc: Global, cut: Cut, saves: bool) -> Result<Cut, Ending>
     ensures same { IfOk result (λ own. own ≡ cut) }
     ensures alone { IfOk result (λ own. saves ≡ true → cut.request.bridges ≡ []) }
@@ -148,8 +148,8 @@ fn allowed(alloc: Global, cut: Cut, saves: bool) -> Result<Cut, Ending>
     Ok(cut)
 }
 
-// The cut that the partition's file asks for, if its request has no fault for the design, and for the command: `saves` tells whether that is
-// `save` or `resume`. These models of bridges are known.
+// The cut of the partition's file, if its request has no fault for the design, and for the command: `saves` is whether that is `save` or `resume`.
+// These models of bridges are known.
 pub(crate) fn read_cut<S: Shelf>(
     alloc: Global,
     shelf: &mut S,

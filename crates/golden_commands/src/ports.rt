@@ -83,7 +83,7 @@ fn add_open(kept: &mut Vec<u32>, piece: &Piece, set: &Paths, signal: u32) -> Res
     Ok(())
 }
 
-// Those of these signals whose paths aren't in a set.
+// The signals, of these, with a path that isn't in a set.
 fn open_signals(
     alloc: Global,
     piece: &Piece,
@@ -144,7 +144,7 @@ fn top_outputs(alloc: Global, tree: &Tree) -> Result<Vec<u32>, AllocError>
     outputs_among(alloc, tree.instances()[0].ports.as_slice())
 }
 
-// The top's outputs that no bridge of a request sees, as ports.
+/// The top's outputs that no bridge of a request sees, as ports.
 ///
 /// # Errors
 ///

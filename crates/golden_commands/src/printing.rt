@@ -55,7 +55,7 @@ fn print_row<K: Sink>(
     printer.take(out, cycle, outs)
 }
 
-// Writes the rows of a run, after its header, to the first one in which a stop acts. Returns whether none does.
+// Writes the rows of a run, after its header, up to the first one where a stop acts. Returns whether none does.
 fn print_rows<K: Sink>(
     mono: &mut Mono<'_>,
     printer: &RowPrinter<'_>,
@@ -110,8 +110,8 @@ fn print_all<K: Sink>(
     Ok(())
 }
 
-// Prints the run of a design's circuit on these inputs, by the simulator: a value for each port, of the first out-signals. The clocks
-// of the circuit and those of the stops have these ratios.
+// Prints the run of a design's circuit on these inputs, by the simulator: a value for each port, of the first out-signals. The clocks of the circuit
+// and of the stops have these ratios.
 fn print_simulated<K: Sink>(
     alloc: Global,
     design: &Design,
@@ -129,7 +129,7 @@ fn print_simulated<K: Sink>(
     ensures out { SinkWentOn K.Sink out.old out.new }
 {
     runs_along();
-    // for the invariant alone
+    // for the invariant only
     let _ = design.order();
     let _ = design.piece();
     let mut mono = match Mono::with_clocks(alloc, design, ratios) {
@@ -160,9 +160,9 @@ fn print_whole<K: Sink>(
     print_simulated(alloc, &whole, ratios, stops, ports, &fed.trace, out)
 }
 
-// Prints the run of a design on a trace, by the simulator: the top's outputs that no bridge sees, cycle by cycle, to the first cycle in
-// which a stop acts. The clocks have the ratios that the request gives. If it asks for pipes or bridges, the reference circuit with the
-// bridges' models is simulated.
+/// Prints the run of a design on a trace, by the simulator: the top's outputs that no bridge sees, cycle by cycle, up to the first cycle where a stop
+/// acts. The clocks have the ratios that the request gives. If the request has pipes or bridges, the reference circuit with the bridges' models is
+/// simulated.
 ///
 /// # Errors
 ///

@@ -80,7 +80,7 @@ fn end_at_trace(alloc: Global, fault: TraceFault) -> Ending
     }
 }
 
-// The columns that the bytes of a trace give the inputs of a circuit that no bridge of a request drives.
+/// The columns that the bytes of a trace give the inputs of a circuit that no bridge of a request drives.
 ///
 /// # Errors
 ///

@@ -18,7 +18,7 @@ fn few_text(alloc: Global, at: u64, rows: u64) -> Result<String, AllocError>
     text_with_number(alloc, before.as_str(), rows)
 }
 
-/// The ending for a run that has a state before cycle `rows` at most, where that before a later cycle is asked for.
+/// The ending for a run that has a state before cycle `rows` at most, if `at` is a later cycle.
 pub fn end_few(alloc: Global, at: u64, rows: u64) -> Ending
     ensures { IfRefused (λ said. said ≡ few_rows at rows) result }
 {

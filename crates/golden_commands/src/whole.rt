@@ -21,7 +21,7 @@ use gg_order::Design;
 use gg_partfile::BridgeEntry;
 use std::alloc::{AllocError, Global};
 
-// The reference circuit of a case, with an order and the design's tree.
+/// The reference circuit of a case, with an order and the design's tree.
 ///
 /// # Errors
 ///
@@ -39,12 +39,12 @@ pub fn reference_of(alloc: Global, case: &Case) -> Result<Design, AllocError>
 fn place_of(models: &Models, name: &Name) -> Option<usize>
     ensures { result ≡ place_of (model_names models.now) name.now }
 {
-    // for the invariant alone
+    // for the invariant only
     let _ = models.len();
     models.find(name)
 }
 
-// The design with the model at a place, which is that of an entry's bridge, at the entry's ports.
+// The design with the model at a place, at the ports of an entry. It is the model of the entry's bridge.
 fn joined_by(
     alloc: Global,
     models: &Models,

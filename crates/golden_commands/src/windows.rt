@@ -24,7 +24,7 @@ use std::alloc::Global;
 use std::marker::Brand;
 use std::thread::Threads;
 
-// Prints the run of a design on a trace, from the network of the plan, whose channels carry the values of a flow.
+// Prints the run of a design on a trace, from the network of the plan. Its channels carry the values of a flow.
 fn print_flow<R: Threads + Sync, B: Bridge + Send + Drop, Z: Streams, K: Sink, G: Gate + Sync>(
     rt: &R,
     alloc: Global,
@@ -60,9 +60,8 @@ fn print_flow<R: Threads + Sync, B: Bridge + Send + Drop, Z: Streams, K: Sink, G
     )
 }
 
-// Prints the run of a design on a trace, with its pipes, clocks and bridges, from the network of the plan: the top's outputs that no bridge
-// sees, cycle by cycle, to the first cycle in which a stop acts. The network is run by this many workers. Host steps bring the rows to its
-// trays.
+/// Prints the run of a design on a trace, with its pipes, clocks and bridges, from the network of the plan: the top's outputs that no bridge sees,
+/// cycle by cycle, up to the first cycle where a stop acts. The network is run by this many workers. Host steps bring the rows to its trays.
 ///
 /// # Errors
 ///

@@ -1,4 +1,4 @@
-//! `Fifo`: a bridge that hands on what it sees, in order.
+//! `Fifo`: a bridge that hands on the values that it sees, in order.
 ghost use Rattle.std.specs.Prelude.{◌≡◌, ◌≤◌, IfOk};
 ghost use Rattle.gg_bits.specs.declared.types.Kind.TheVariants.{UInt};
 ghost use Rattle.golden_fifo.specs.inside.Fifo.{empty_place, next_place};
@@ -12,9 +12,8 @@ use std::marker::Model;
 
 /// A FIFO with four places, of unsigned values of one width.
 ///
-/// It sees `put`, a value, and `stop`: with `put` at 1 the value goes in, unless the FIFO says that it is full. It says `valid`, a value, and
-/// `full`: with `valid` at 1 the value is the first, and goes out unless `stop` is 1. A value moves on by a place in each
-/// cycle in which the next place is empty.
+/// It sees `put`, a value, and `stop`: with `put` at 1 the value goes in, unless the FIFO says that it is full. It says `valid`, a value, and `full`:
+/// with `valid` at 1 the value is the first, and goes out unless `stop` is 1. In each cycle a value moves on by a place if the next place is empty.
 #[derive(Drop)]
 pub struct Fifo {
     bit: Ty,
@@ -36,8 +35,7 @@ impl Model for Fifo {
     ghost invariant = { λ fifo. IsFifo fifo.bit fifo.ty fifo.piece fifo.first fifo.second fifo.third fifo.fourth };
 }
 
-// What is in a place after a cycle: a full place keeps its value, and is full as long as it can't hand it on; an empty one takes what
-// is behind it.
+// A place after a cycle: a full place keeps its value, and is full as long as it can't hand it on; an empty one takes the place before it, `behind`.
 fn next(place: Place, behind: Place, stop: u128) -> Place
     ensures { result ≡ next_place place behind stop }
 {

@@ -1,8 +1,8 @@
-//! The program golden with two bridges of its own, which it hands in: `fifo8`, a FIFO with four places of 8 bits each, and `uart1`, which writes what
-//! is sent on a line. It shows what a program with bridges of its own has to do. The words of its call are those of golden.
+//! The program golden with two bridges of its own, which it hands in: `fifo8`, a FIFO with four places of 8 bits each, and `uart1`, which writes the
+//! bytes that are sent on a line. It shows the duties of a program with bridges of its own. The words of its call are golden's.
 //!
-//! A [`Fifo`] keeps to a flat circuit, which specs/inside/Fifo has. That it does is proved, so a run with it is a run of the circuit that has this
-//! flat circuit at the bridge's ports. A [`Receiver`] only watches, so nothing is proved of what it does.
+//! A [`Fifo`] keeps to a flat circuit, which specs/inside/Fifo has. This is proved, so a run with it is a run of the circuit that has this flat
+//! circuit at the bridge's ports. A [`Receiver`] only watches, so nothing is proved of what it does.
 #![tactic(auto)]
 
 mod fifo;
@@ -24,7 +24,7 @@ use std::rt::Stdout;
 use std::thread::Threads;
 use std::{env, io};
 
-// The status and the line for a call whose words or whose bridge can't be allocated.
+// The status and the line for a call if its words or its bridges can't be allocated.
 const OUT_OF_MEMORY: u8 = 5;
 
 const OUT_OF_MEMORY_LINE: &[u8] = b"golden: out of memory\n";

@@ -10,9 +10,8 @@ use std::alloc::{AllocError, Global};
 // A place of a FIFO.
 #[derive(Clone, Copy)]
 pub(crate) struct Place {
-    // 1 if there is a value in it, else 0.
+    // 1 if there is a value in it, otherwise 0.
     pub(crate) full: u128,
-    // The value.
     pub(crate) value: u128,
 }
 
@@ -46,7 +45,7 @@ fn add(
     }
 }
 
-// Adds a register: it keeps what `own` has as long as `full` is 1, and else takes what `behind` has.
+// Adds a register: it keeps the value of `own` as long as `full` is 1, and otherwise takes the value of `behind`.
 fn add_register(
     alloc: Global,
     piece: &mut Piece,
@@ -89,7 +88,7 @@ fn add_place(
     add(alloc, piece, value, ty, Driver::Held(second))
 }
 
-// The flat circuit with the signals alone.
+// The flat circuit with only its signals.
 fn signals_of(alloc: Global, bit: Ty, ty: Ty) -> Result<Piece, AllocError>
     ensures { IfOk result (λ piece. piece ≡ fifo_signals bit ty) }
 {
@@ -104,8 +103,8 @@ fn signals_of(alloc: Global, bit: Ty, ty: Ty) -> Result<Piece, AllocError>
     Ok(piece)
 }
 
-// Adds the two registers of a place. `full` and `value` are its own signals, `stop` says that the next place is full, `behind_full` and
-// `behind` are the signals of what is behind it.
+// Adds the two registers of a place. `full` and `value` are its own signals, `stop` says that the next place is full, and `behind_full` and `behind`
+// are the signals of the place before it.
 fn add_place_registers(
     alloc: Global,
     piece: &mut Piece,
@@ -123,7 +122,6 @@ fn add_place_registers(
     add_register(alloc, piece, bit, full, ty, value, behind)
 }
 
-// Adds the registers.
 fn add_registers(alloc: Global, piece: &mut Piece, bit: Ty, ty: Ty) -> Result<(), AllocError>
     requires { piece.old.registers ≡ [] }
     ensures { OnOk result (piece.new ≡ record piece.old { registers = fifo_registers bit ty }) }

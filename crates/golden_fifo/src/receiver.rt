@@ -1,4 +1,4 @@
-//! `Receiver`: what is sent on a line, as bytes on the standard output.
+//! `Receiver`: writes the bytes that are sent on a line to the standard output.
 use gg_bridge::Watch;
 use std::io::Write;
 use std::rt::Stdout;
@@ -6,7 +6,7 @@ use std::rt::Stdout;
 /// Receives bytes from the line of a UART, and writes each to the standard output: a start bit of 0, eight bits of the byte, the least first,
 /// and a stop bit of 1. A line that is idle is 1.
 ///
-/// It owes no proof but that it can't panic. What it writes is not known to any contract.
+/// It needs only the proof that it can't panic. What it writes is not known to any contract.
 #[derive(Drop)]
 pub struct Receiver {
     out: Stdout,
@@ -20,7 +20,7 @@ pub struct Receiver {
 }
 
 impl Receiver {
-    /// A receiver of a line on which a bit lasts this many cycles.
+    /// A receiver of a line with this many cycles for each bit.
     pub fn new(out: Stdout, period: u32) -> Receiver {
         Receiver {
             out,

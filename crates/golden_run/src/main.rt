@@ -14,8 +14,8 @@ use std::process::ExitCode;
 use std::thread::Threads;
 use std::{env, io};
 
-// The status and the line for a call whose words or whose echoes can't be allocated. They are those of `out_of_memory` in gg_io's
-// specs, repeated here since `golden_with` needs the words.
+// The status and the line for a call if its words or its echoes can't be allocated. They repeat `out_of_memory` in gg_io's specs, because
+// `golden_with` needs the words.
 const OUT_OF_MEMORY: u8 = 5;
 
 const OUT_OF_MEMORY_LINE: &[u8] = b"golden: out of memory\n";

@@ -1,4 +1,4 @@
-//! Calls with files and sinks in memory, and what they answered.
+//! Calls with files and sinks in memory, and their answers.
 ghost use Rattle.std.specs.Prelude.{◌≡◌, [], ◌∷◌, codes, length, IfOk};
 ghost use Rattle.gg_flat.specs.State.{opening};
 
@@ -35,7 +35,7 @@ pub(crate) fn files_of(
     Ok(files)
 }
 
-// What a call answered, how many loads and puts on `out` it made, and what stands on its sinks.
+// The answer of a call: its status, its loads, its puts on `out`, and the texts on its sinks.
 pub(crate) struct Answer {
     pub(crate) status: u8,
     pub(crate) loads: u64,
@@ -59,13 +59,13 @@ impl Drop for Answer {
 }
 
 impl Answer {
-    // Whether the call answered this status after so many loads, and left these texts on its sinks. Each line on `out` is
-    // a put of its own, also where the last of them fails.
+    // Whether the call answered this status after this many loads, and left these texts on its sinks. Each line on `out` is a put of its own, also
+    // where the last of them fails.
     pub(crate) fn is(&self, status: u8, loads: u64, out: &[u8], err: &[u8]) -> bool {
         self.is_put(status, loads, lines_in(out), out, err)
     }
 
-    // The same where so many puts were made on `out`.
+    // Whether the call answered this status after this many loads, with this many puts on `out`, and left these texts on its sinks.
     pub(crate) fn is_put(&self, status: u8, loads: u64, puts: u64, out: &[u8], err: &[u8]) -> bool {
         self.status == status
             && self.loads == loads
@@ -86,7 +86,7 @@ impl Answer {
     }
 }
 
-// The words of a call, of a line that parts them by blanks.
+// The words of a call, from a line with blanks between them.
 pub(crate) fn words_of(alloc: Global, line: &str) -> Result<Vec<String>, AllocError> {
     let mut words = Vec::new(alloc);
     for word in line.split(' ') {
@@ -240,7 +240,7 @@ pub(crate) fn ask<R: Threads + Sync>(
     )
 }
 
-// The same with a circuit, a partition and a trace.
+// A call with these words, a circuit, a partition and a trace, where nothing fails.
 pub(crate) fn ask_of<R: Threads + Sync>(
     rt: &R,
     alloc: Global,

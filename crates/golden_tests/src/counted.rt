@@ -1,4 +1,4 @@
-//! How often a bridge that is handed in is called, and that it is the one of its name.
+//! How often a bridge that is handed in is called, and that it is the bridge of its name.
 ghost use Rattle.std.specs.Prelude.{◌≡◌, [], ◌∷◌, codes, length, IfOk};
 ghost use Rattle.gg_flat.specs.State.{opening};
 
@@ -83,7 +83,7 @@ impl Counts {
         })
     }
 
-    // Whether the first bridge said and answered so often, and the other so often.
+    // Whether the first bridge said and answered this often, and the other this often.
     fn are(&self, said: u64, answered: u64, other_said: u64, other_answered: u64) -> bool {
         self.said.load(Ordering::SeqCst) == said
             && self.answered.load(Ordering::SeqCst) == answered
@@ -161,7 +161,7 @@ fn call_on<R: Threads + Sync, S: Shelf, K: Sink, E: Sink>(
     call_with(rt, alloc, words, shelf, out, err, first, other)
 }
 
-// A run of five rows with this partition and these options, in which two bridges count here. Returns whether it has its rows.
+// A run of five rows with this partition and these options. Two of its bridges count here. Returns whether it has its rows.
 fn has_rows<R: Threads + Sync>(
     rt: &R,
     alloc: Global,

@@ -1,5 +1,5 @@
-//! Each command with each of its loads and each of its puts failing in turn, and refusals that can't be told: the calls of tables/printing.rt and
-//! of tables/refused.rt.
+//! Each command with each of its loads and each of its puts failing in turn, and refusals without an output that takes them. The calls are in
+//! tables/printing.rt and tables/refused.rt.
 use crate::calls::call;
 use crate::outputs::{Full, Narrow, status_on};
 use crate::row::Row;
@@ -11,7 +11,7 @@ use std::alloc::{AllocError, Global};
 use std::test::Fail;
 use std::thread::Threads;
 
-// Whether a call where the load of this number fails, that of the file with this name, ends with status 3 and the name.
+// Whether a call ends with status 3 and this name, if the load of this number fails, which is the load of the file with this name.
 fn is_unloaded<R: Threads + Sync>(
     rt: &R,
     alloc: Global,
@@ -27,7 +27,7 @@ fn is_unloaded<R: Threads + Sync>(
     Ok(answer.is(3, load.saturating_add(1), b"", line.as_bytes()))
 }
 
-// Whether it ends so for each of its loads: that of each word with a dot, in turn.
+// Whether it ends so for each of its loads in turn: a load for each word with a dot.
 fn are_unloaded<R: Threads + Sync>(
     rt: &R,
     alloc: Global,
@@ -45,7 +45,7 @@ fn are_unloaded<R: Threads + Sync>(
     Ok(row.end == Some((0, load)))
 }
 
-// Whether a call where `out` takes so many bytes, and `err` so many, ends with status 4, and with these bytes of its text and of its line.
+// Whether a call ends with status 4, and with a front of its text and of its line, if `out` takes `room` bytes and `err` takes `err_room`.
 fn is_stopped<R: Threads + Sync>(
     rt: &R,
     alloc: Global,
@@ -65,7 +65,7 @@ fn is_stopped<R: Threads + Sync>(
     )
 }
 
-// Whether it ends so after each byte of its text. The line has 21 bytes: so `err` fails after each of them too, or takes them all.
+// Whether it ends so after each byte of its text. The line has 21 bytes: `err` fails after each of them too, or takes them all.
 fn are_stopped<R: Threads + Sync>(
     rt: &R,
     alloc: Global,
@@ -79,7 +79,7 @@ fn are_stopped<R: Threads + Sync>(
     Ok(true)
 }
 
-// Whether a call where `out` has memory for so many puts ends with this status, this text and this line.
+// Whether a call ends with this status, this text and this line, if `out` has memory for this many puts.
 fn ends_with_memory<R: Threads + Sync>(
     rt: &R,
     alloc: Global,
@@ -95,8 +95,8 @@ fn ends_with_memory<R: Threads + Sync>(
     Ok(status == wanted && out.holds(text) && err.holds(line.as_bytes()))
 }
 
-// Whether a call ends with status 5 and its first puts where `out` has memory for these alone, so many; and with status 0 and its whole text where it has memory for
-// all of them.
+// Whether a call ends with status 5 and its first puts, if `out` has memory only for these, `room` of them; and with status 0 and its whole text, if
+// `out` has memory for all puts.
 fn is_without_memory<R: Threads + Sync>(
     rt: &R,
     alloc: Global,
@@ -126,7 +126,7 @@ fn are_without_memory<R: Threads + Sync>(
     Ok(true)
 }
 
-// The status of a row's call where `out` takes nothing, and `err` so many bytes, if these are all that is told first. `None` if not.
+// The status of a row's call, if `out` takes nothing and `err` takes `room` bytes. `None` if other bytes come on `err`.
 fn status_told<R: Threads + Sync>(
     rt: &R,
     alloc: Global,
@@ -143,7 +143,7 @@ fn status_told<R: Threads + Sync>(
     })
 }
 
-// Whether a refused call has its status after each byte of what it tells. No status changes where `err` fails, and nothing is put on `out`.
+// Whether a refused call has its status after each byte of its line. No status changes where `err` fails, and nothing is put on `out`.
 fn are_told<R: Threads + Sync>(rt: &R, alloc: Global, row: &Row<'_>) -> Result<bool, AllocError> {
     let status = row.end.map(|end| end.0);
     for room in 0..row.err.len().saturating_add(1) {
@@ -154,7 +154,7 @@ fn are_told<R: Threads + Sync>(rt: &R, alloc: Global, row: &Row<'_>) -> Result<b
     Ok(true)
 }
 
-// What fails in turn: each load, `out` after each byte, memory for each put on it, or `err` after each byte.
+// The thing that fails in turn: each load, `out` after each byte, memory for each put on it, or `err` after each byte.
 enum Turn {
     Load,
     Out,

@@ -19,27 +19,27 @@ const REPLAY: &str = "golden replay k1.fir p.json k1.trace s.steps";
 
 // A call on large files.
 enum Large {
-    // `run` in each way, on the counter with so many operations one inside the other.
+    // `run` in each way, on the counter with this many operations one inside the other.
     Nested(usize),
-    // These words, on so many instances that are all units.
+    // These words, on this many instances that are all units.
     Units(&'static str, u64),
-    // `run` in each way, on so many outputs.
+    // `run` in each way, on this many outputs.
     Outputs(u64),
-    // `run` in each way, on a thousand clocks, where the last of them, and so many from the first on, have ratios.
+    // `run` in each way, on a thousand clocks. The last of them, and this many of the first, have ratios.
     Clocks(u64),
-    // These words, on an output that is an instance's behind a hundred nodes.
+    // These words, on an output that is an instance's, after a hundred nodes.
     Nodes(&'static str),
-    // These words, on modules in a chain: so many of them below the top, so many instances of the next one in each, and these lines in the last.
+    // These words, on modules in a chain: the levels below the top, the number of instances of the next module in each, and the lines of the last.
     Chain(&'static str, u32, u32, &'static str),
-    // `run` in each way, on the counter and so many rows.
+    // `run` in each way, on the counter and this many rows.
     Rows(u64),
-    // `run` once, on the counter with blanks behind it, up to so many bytes.
+    // `run` once, on the counter with blanks after it, up to this many bytes.
     Padded(usize),
-    // These words, on the counter's files and a file of this name with so many blanks.
+    // These words, on the counter's files and a file of this name with this many blanks.
     Blanks(&'static str, &'static str, usize),
 }
 
-// A call on large files, its status and its loads. If the status is 0, then this text is on `out`, else on `err`.
+// A call on large files, its status and its loads. If the status is 0, this text is on `out`, otherwise on `err`.
 type LargeRow = (Large, u8, u64, &'static str);
 
 // Operations one inside the other, units, channels, clocks, and a chain of copies.
@@ -67,7 +67,7 @@ static LIMITS: [LargeRow; 11] = [
     (Nodes(RUN), 0, 3, "cycle y\n0 a\n"),
 ];
 
-// What the last module of a chain declares.
+// The declarations of the last module of a chain.
 const WIRE: &str = "wire w : UInt<1>\nw <= UInt<1>(\"h0\")\n";
 
 // Chains of modules at the limits of depth, signals and instances, and past them.
@@ -165,7 +165,7 @@ fn check_large<R: Threads + Sync>(
     Ok(())
 }
 
-// What a call on large files answers.
+// The answer of a call on large files.
 fn ask_large<R: Threads + Sync>(
     rt: &R,
     alloc: Global,
@@ -186,7 +186,7 @@ fn ask_large<R: Threads + Sync>(
     }
 }
 
-// The counter whose tenth line has so many operations one inside the other.
+// The counter with this many operations, one inside the other, in its tenth line.
 fn nested(alloc: Global, depth: usize) -> Result<Vec<u8>, AllocError> {
     let mut text = String::from_str(alloc, "out <= ")?;
     for _ in 0..depth {
@@ -201,7 +201,7 @@ fn nested(alloc: Global, depth: usize) -> Result<Vec<u8>, AllocError> {
     edited(alloc, counter.as_slice(), 11, 10, text.as_bytes())
 }
 
-// `run` in each way, on it.
+// `run` in each way, on the nested counter.
 fn run_nested<R: Threads + Sync>(
     rt: &R,
     alloc: Global,
@@ -211,7 +211,7 @@ fn run_nested<R: Threads + Sync>(
     run(rt, alloc, circuit.as_slice(), "{}", TRACE)
 }
 
-// Writes, for each number from `first` on and below `count`, a piece that has the number in its middle.
+// Writes, for each number not below `first` and below `count`, a piece that has the number in its middle.
 fn push_numbered(
     text: &mut String,
     first: u64,
@@ -228,7 +228,7 @@ fn push_numbered(
     Ok(())
 }
 
-// A call with these words on so many instances, and a partition that lists them all.
+// A call with these words on this many instances, and a partition that lists them all.
 fn ask_units<R: Threads + Sync>(
     rt: &R,
     alloc: Global,
@@ -250,7 +250,7 @@ fn ask_units<R: Threads + Sync>(
     )
 }
 
-// `run` in each way, on a circuit of so many outputs.
+// `run` in each way, on a circuit with this many outputs.
 fn run_outputs<R: Threads + Sync>(rt: &R, alloc: Global, count: u64) -> Result<Answer, AllocError> {
     let mut circuit = String::from_str(alloc, "circuit Top :\nmodule Top :\n")?;
     push_numbered(&mut circuit, 0, count, "output o", " : UInt<1>\n")?;
@@ -258,8 +258,8 @@ fn run_outputs<R: Threads + Sync>(rt: &R, alloc: Global, count: u64) -> Result<A
     run(rt, alloc, circuit.as_bytes(), "{}", "")
 }
 
-// `run` in each way, on a register of the last of a thousand clocks. That one has an edge in each second cycle, and so many from the first on
-// in each third one.
+// `run` in each way, on a register of the last of a thousand clocks. That clock has an edge in each second cycle, and the first `count` clocks in
+// each third one.
 fn run_clocks<R: Threads + Sync>(rt: &R, alloc: Global, count: u64) -> Result<Answer, AllocError> {
     let mut circuit = String::from_str(alloc, "circuit Top :\nmodule Top :\n")?;
     push_numbered(&mut circuit, 0, 1_000, "input c", " : Clock\n")?;
@@ -276,7 +276,7 @@ fn run_clocks<R: Threads + Sync>(rt: &R, alloc: Global, count: u64) -> Result<An
     )
 }
 
-// A circuit whose output is an instance's behind a hundred nodes.
+// A circuit with an instance's output as its own, after a hundred nodes.
 fn chain_of_nodes(alloc: Global) -> Result<String, AllocError> {
     let mut buffer = Buffer::new();
     let mut circuit = String::from_str(
@@ -294,7 +294,7 @@ fn chain_of_nodes(alloc: Global) -> Result<String, AllocError> {
     Ok(circuit)
 }
 
-// A call with these words on it, where the instance's channels are direct.
+// A call with these words on the chain of nodes, where the instance's channels are direct.
 fn ask_nodes<R: Threads + Sync>(rt: &R, alloc: Global, line: &str) -> Result<Answer, AllocError> {
     let circuit = chain_of_nodes(alloc)?;
     let partition = "{\"units\":[\"u\"],\"direct\":true}";
@@ -327,7 +327,7 @@ fn chain_of_modules(
     Ok(circuit)
 }
 
-// A call with these words on it.
+// A call with these words on a chain of modules.
 fn ask_chain<R: Threads + Sync>(
     rt: &R,
     alloc: Global,
@@ -340,7 +340,7 @@ fn ask_chain<R: Threads + Sync>(
     ask_of(rt, alloc, line, circuit.as_bytes(), "{}", "cycle\n0\n")
 }
 
-// `run` in each way, on the counter and so many rows.
+// `run` in each way, on the counter and this many rows.
 fn run_rows<R: Threads + Sync>(rt: &R, alloc: Global, count: u64) -> Result<Answer, AllocError> {
     let mut trace = String::from_str(alloc, "cycle reset\n")?;
     push_numbered(&mut trace, 0, count, "", " 0001\n")?;
@@ -348,7 +348,7 @@ fn run_rows<R: Threads + Sync>(rt: &R, alloc: Global, count: u64) -> Result<Answ
     run(rt, alloc, counter.as_slice(), "{}", trace.as_str())
 }
 
-// `run` on the counter with blanks behind it, up to so many bytes.
+// `run` on the counter with blanks after it, up to this many bytes.
 fn run_padded<R: Threads + Sync>(rt: &R, alloc: Global, size: usize) -> Result<Answer, AllocError> {
     let mut bytes = named_text(alloc, "counter")?;
     bytes.resize(size, b' ')?;
@@ -356,7 +356,7 @@ fn run_padded<R: Threads + Sync>(rt: &R, alloc: Global, size: usize) -> Result<A
     ask(rt, alloc, RUN, files)
 }
 
-// A call with these words on the counter's files and a file with so many blanks.
+// A call with these words on the counter's files and a file with this many blanks.
 fn ask_blanks<R: Threads + Sync>(
     rt: &R,
     alloc: Global,

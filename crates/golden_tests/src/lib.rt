@@ -1,11 +1,12 @@
-//! Tests of the public call `golden_with`, with five echoes, files and sinks in memory: which words are a command, what each command prints, and which
-//! circuits, partitions, traces, steps and snapshots are refused, up to the limits. Expected texts are worked by hand from docs/FORMATS.md where nothing else
-//! is said.
+//! Tests of the public call `golden_with`, with five echoes, files and sinks in memory: which words are a command, what each command prints, and
+//! which circuits, partitions, traces, steps and snapshots are refused, up to the limits. Expected texts are worked by hand from docs/FORMATS.md,
+//! unless a table says otherwise.
 //!
-//! - `tables`: rows, as texts by what they are about. A row is a call, the files that it is lent, and how it ends; [`rows`] says how it is written.
-//!   One loop goes over all of them, since each further test function makes the proof longer.
-//! - `demos`, `large`, `windows`: calls on what a function makes: all sizes of `demo`, files at the limits, runs of more cycles than a tray keeps values.
-//! - `failures`, `outputs`: calls of which each load and each put fails in turn.
+//! - `tables`: rows, as texts, by topic. A row is a call, the files that it is lent, and how it ends; [`rows`] describes how it is written. One loop
+//!   goes over all of them, because each further test function makes the proof longer.
+//! - `demos`, `large`, `windows`: calls on texts that a function makes: all sizes of `demo`, files at the limits, runs of more cycles than a tray
+//!   keeps values.
+//! - `failures`, `outputs`: calls with each load and each put failing in turn.
 //! - `counted`: how often a bridge is called;
 //! - `workers`: two workers that meet.
 #![tactic(auto)]

@@ -9,7 +9,7 @@ use std::alloc::{AllocError, Global};
 use std::io::{self, Write};
 use std::thread::Threads;
 
-// A stream that takes so many bytes, and then fails.
+// A stream that takes `room` bytes, and then fails.
 #[derive(Drop)]
 pub(crate) struct Narrow {
     bytes: Vec<u8>,
@@ -17,7 +17,7 @@ pub(crate) struct Narrow {
 }
 
 impl Narrow {
-    // An empty stream with room for so many bytes.
+    // An empty stream with room for this many bytes.
     pub(crate) fn new(alloc: Global, room: usize) -> Narrow {
         Narrow {
             bytes: Vec::new(alloc),
@@ -52,7 +52,7 @@ impl Write for Narrow {
     }
 }
 
-// A sink that has memory for so many puts. It tells nothing of what was written, and keeps it for the test to see.
+// A sink that has memory for `room` puts. Its contract says nothing of what was written, and the test looks at it.
 #[derive(Drop)]
 pub(crate) struct Full {
     bytes: Vec<u8>,
@@ -61,7 +61,7 @@ pub(crate) struct Full {
 }
 
 impl Full {
-    // An empty sink with memory for so many puts.
+    // An empty sink with memory for this many puts.
     pub(crate) fn new(alloc: Global, room: u64) -> Full {
         Full {
             bytes: Vec::new(alloc),

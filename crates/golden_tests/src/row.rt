@@ -7,7 +7,7 @@ use std::alloc::{AllocError, Global};
 use std::mem;
 use std::thread::Threads;
 
-// What follows the first line of a call whose words aren't a command.
+// The rest of the answer after its first line, for a call with words that aren't a command.
 pub(crate) const USAGE: &str =
     "\nusage: golden run CIRCUIT PARTITION TRACE [--capacity K] [--workers W] [--mono]\nusage: golden replay CIRCUIT PARTITION TRACE STEPS [--capacity K]\nusage: golden check CIRCUIT PARTITION [--capacity K]\nusage: golden demo SEED SIZE [--workers W]\nusage: golden save CIRCUIT PARTITION TRACE AT [--capacity K] [--workers W]\nusage: golden resume CIRCUIT PARTITION TRACE SNAP [--capacity K] [--workers W]\n";
 
@@ -20,7 +20,6 @@ pub(crate) struct Row<'a> {
     pub(crate) words: &'a str,
     // Whether it is made in each way.
     is_each_way: bool,
-    // Its files.
     pub(crate) files: Lent<'a>,
     // The loads and the puts that fail.
     loads: Vec<u64>,
@@ -30,10 +29,10 @@ pub(crate) struct Row<'a> {
     pub(crate) end: Option<(u8, u64)>,
     // Whether `out` is put at once.
     is_at_once: bool,
-    // What stands on `out` and `err`.
+    // The texts on `out` and `err`.
     pub(crate) out: Vec<u8>,
     pub(crate) err: Vec<u8>,
-    // The text that is being read, what stands before it, and whether it ends the row.
+    // The text that is being read, the words before it, and whether it ends the row.
     head: &'a str,
     text: Vec<u8>,
     is_last: bool,
@@ -67,7 +66,7 @@ impl<'a> Drop for Row<'a> {
 }
 
 impl<'a> Row<'a> {
-    // A row of which nothing is read.
+    // A row before anything of it is read.
     pub(crate) fn new(alloc: Global) -> Row<'a> {
         Row {
             words: "",
@@ -110,7 +109,7 @@ impl<'a> Row<'a> {
         Ok(true)
     }
 
-    // Whether this line belongs to a row behind.
+    // Whether this line belongs to a later row.
     pub(crate) fn ends_before(&self, line: &str) -> bool {
         self.is_last && !line.starts_with('|')
     }
@@ -151,7 +150,7 @@ impl<'a> Row<'a> {
         self.open(line)
     }
 
-    // Begins a text: what stands before the first bar or colon, and what is behind it.
+    // Begins a text: the words before the first bar or colon, and the text after it.
     fn open(&mut self, line: &'a str) -> Result<bool, AllocError> {
         let mut head = line;
         if let Some((before, _)) = head.split_once(" | ") {
@@ -174,7 +173,7 @@ impl<'a> Row<'a> {
         }
     }
 
-    // Ends a text: it becomes what stands before it says.
+    // Ends a text, and puts it where the words before it say.
     fn close(&mut self, alloc: Global) -> Result<bool, AllocError> {
         let head = mem::replace(&mut self.head, "");
         let text = mem::replace(&mut self.text, Vec::new(alloc));
@@ -195,7 +194,7 @@ impl<'a> Row<'a> {
         self.end_by(head, text)
     }
 
-    // Lends a text that has a name, with a line replaced, cut to so many lines, or with more behind it.
+    // Lends a text that has a name, with a line replaced, cut to its first lines, or with more after it.
     fn lend_named(
         &mut self,
         alloc: Global,
@@ -223,7 +222,8 @@ impl<'a> Row<'a> {
         Ok(FILES.contains(&file))
     }
 
-    // Takes how the call ends, and the text that belongs to it. Returns false if the words before it don't say so, or if an end was taken before.
+    // Takes how the call ends, and the text that belongs to it. Returns false if the words before it don't describe an end, or if an end was taken
+    // before.
     fn end_by(&mut self, head: &str, mut text: Vec<u8>) -> Result<bool, AllocError> {
         if self.end.is_some() {
             return Ok(false);
@@ -249,7 +249,7 @@ impl<'a> Row<'a> {
         Ok(self.end.is_some())
     }
 
-    // What the call answers. What fails and is not made any more is taken out of the row.
+    // The answer of the call. What fails and is not made any more is taken out of the row.
     pub(crate) fn answer<R: Threads + Sync>(
         &mut self,
         rt: &R,
@@ -274,7 +274,7 @@ impl<'a> Row<'a> {
         }
     }
 
-    // Whether a call ended so.
+    // Whether a call ended as the row says.
     pub(crate) fn ends_by(&self, answer: &Answer) -> bool {
         let (out, err) = (self.out.as_slice(), self.err.as_slice());
         match self.end {
@@ -309,7 +309,7 @@ fn failing_put(written: &str) -> Option<FailingPut> {
     })
 }
 
-// An edit of a text of so many lines, as in `line 4` or `7 lines`: how many lines stay, and which is replaced (0: none). `None`: it is no edit, or
+// An edit of a text of this many lines, as in `line 4` or `7 lines`: how many lines stay, and which is replaced (0: none). `None`: it is no edit, or
 // there is no such line.
 fn edit_of(written: &str, lines: u64) -> Option<(u64, u64)> {
     if let Some(changed) = written.strip_prefix("line ") {

@@ -1,6 +1,6 @@
 //! Rows, as texts, and their check.
 //!
-//! A row is a call, the files that it is lent, what fails, and how it ends. What all rows below share stands in a paragraph that begins with `given`.
+//! A row is a call, the files that it is lent, what fails, and how it ends. A paragraph that begins with `given` has what all rows below share.
 //!
 //! ```text
 //! given
@@ -19,18 +19,18 @@
 //! status 4 after 3 loads | golden: cannot write
 //! ```
 //!
-//! Behind a bar stands a line with its end, behind a colon a text as it is or a string in quotes. A text goes on where the next line begins with
-//! a bar. Behind `=` stands the name of a text in tables/named.rt. It may have a line replaced, be cut to so many lines, or go on. An arrow is the end of
-//! a line.
+//! After a bar comes a line with its end, after a colon a text as it is or a string in quotes. A text goes on where the next line begins with a bar.
+//! After `=` comes the name of a text in tables/named.rt. It may have a line replaced, be cut to its first lines, or go on. An arrow is the end of a
+//! line.
 //!
-//! A row ends with `prints` (status 0, one put on `out` for each line), with `saves` (status 0, one put), with `status` (what stands behind is on `err`;
-//! what is on `out` stands above), or with `usage` (status 2, nothing is loaded, and the usage follows on `err`).
+//! A row ends with `prints` (status 0, one put on `out` for each line), with `saves` (status 0, one put), with `status` (the text after it is on
+//! `err`; the text on `out` comes before it), or with `usage` (status 2, nothing is loaded, and the usage follows on `err`).
 use crate::row::Row;
 use std::alloc::Global;
 use std::test::Fail;
 use std::thread::Threads;
 
-// Whether a paragraph says what all rows below share.
+// Whether a paragraph has what all rows below share.
 fn is_given(paragraph: &str) -> bool {
     paragraph.trim_start().starts_with("given\n")
 }
@@ -61,7 +61,7 @@ fn check_row<R: Threads + Sync>(
     )))
 }
 
-// Checks the rows of a paragraph that stands behind this line of a text. Returns how many there are.
+// Checks the rows of a paragraph that comes after this line of a text. Returns how many there are.
 fn check_paragraph<R: Threads + Sync>(
     rt: &R,
     alloc: Global,
@@ -91,7 +91,7 @@ fn check_paragraph<R: Threads + Sync>(
     Ok(rows.saturating_add(1))
 }
 
-// Checks each row of a text. A failure shows where it stands, and how it ended.
+// Checks each row of a text. A failure shows its place, and how it ended.
 //
 // # Errors
 //

@@ -2,7 +2,7 @@
 use crate::tables::named::{CIRCUITS, CLOCKED, MORE};
 use std::alloc::{AllocError, Global};
 
-// Adds the lines that stand behind a bar. Each begins behind one. Returns false if the first doesn't.
+// Adds the lines of a text. A bar comes before each. Returns false if there is none before the first.
 pub(crate) fn push_lines(text: &mut Vec<u8>, lines: &str) -> Result<bool, AllocError> {
     if lines == "|" {
         text.push(b'\n')?;
@@ -18,7 +18,7 @@ pub(crate) fn push_lines(text: &mut Vec<u8>, lines: &str) -> Result<bool, AllocE
     Ok(true)
 }
 
-// Which byte stands behind a backslash. An `x` stands for one that is no text.
+// The byte of a backslash and this byte. For `x` it is a byte that is no text.
 fn unescaped(byte: u8) -> u8 {
     match byte {
         b'n' => b'\n',
@@ -29,7 +29,7 @@ fn unescaped(byte: u8) -> u8 {
     }
 }
 
-// Adds what a string in quotes says, of which this stands behind its first quote. Returns false if it has no end.
+// Adds the text of a string in quotes. `string` is the rest after its first quote. Returns false if it has no end.
 fn push_quoted(text: &mut Vec<u8>, string: &str) -> Result<bool, AllocError> {
     let Some(inner) = string.strip_suffix('"') else {
         return Ok(false);
@@ -48,7 +48,7 @@ fn push_quoted(text: &mut Vec<u8>, string: &str) -> Result<bool, AllocError> {
     Ok(!is_escaped)
 }
 
-// Adds a text that stands behind a colon: a string in quotes, or what is there. It has no end of a line.
+// Adds a text that comes after a colon: a string in quotes, or the text as it is. It has no end of a line.
 pub(crate) fn push_text(text: &mut Vec<u8>, written: &str) -> Result<bool, AllocError> {
     if let Some(string) = written.strip_prefix('"') {
         return push_quoted(text, string);
@@ -57,7 +57,7 @@ pub(crate) fn push_text(text: &mut Vec<u8>, written: &str) -> Result<bool, Alloc
     Ok(true)
 }
 
-// The text of this name, of these. It is empty if there is none.
+// The text of this name, in these texts. It is empty if there is none.
 fn text_in(alloc: Global, texts: &str, name: &str) -> Result<Vec<u8>, AllocError> {
     let mut text = Vec::new(alloc);
     let mut is_in = false;
@@ -97,7 +97,7 @@ pub(crate) fn lines_in(text: &[u8]) -> u64 {
     lines
 }
 
-// The first lines of a text, so many, where these stand in the place of a line, counted from 1 (0: of none).
+// The first `lines` lines of a text, with these bytes in the place of a line, counted from 1 (0: of none).
 pub(crate) fn edited(
     alloc: Global,
     text: &[u8],

@@ -8,7 +8,7 @@ use std::thread::Threads;
 // The files that a call is lent, each with its name. Of two of one name the later counts.
 pub(crate) type Lent<'a> = Vec<(&'a str, Vec<u8>)>;
 
-// These files, with direct channels if so.
+// These files, with direct channels if `is_direct`.
 pub(crate) fn files_lent(
     alloc: Global,
     lent: &[(&str, Vec<u8>)],
@@ -26,7 +26,7 @@ pub(crate) fn files_lent(
     Ok(files)
 }
 
-// A partition with direct channels: the key stands first. A text that is no object stays, and what is no text is left out.
+// A partition with direct channels. The key comes first. A text that is no object stays, and bytes that are no text are left out.
 fn with_direct(alloc: Global, partition: &[u8]) -> Result<String, AllocError> {
     let Ok(partition) = std::str::from_utf8(partition) else {
         return Ok(String::new(alloc));
@@ -43,13 +43,13 @@ fn with_direct(alloc: Global, partition: &[u8]) -> Result<String, AllocError> {
     Ok(text)
 }
 
-// The options with which `run` is called, besides without any.
+// The options of `run`, besides none.
 static RUN_WAYS: [&str; 4] = [" --mono", " --workers 1", " --workers 2", " --workers 3"];
 
-// The same of `save` and `resume`.
+// The options of `save` and `resume`, besides none.
 static SNAP_WAYS: [&str; 2] = [" --workers 2", " --capacity 1 --workers 1"];
 
-// The same of all three with direct channels.
+// The options of all three, with direct channels.
 static DIRECT_WAYS: [&str; 2] = ["", " --workers 2"];
 
 // A call with these words and options, where nothing fails.
@@ -67,7 +67,7 @@ fn ask_with<R: Threads + Sync>(
     ask(rt, alloc, line.as_str(), files)
 }
 
-// What the second of two ways answers, with the status 255 if the first answers something else.
+// The answer of the second of two ways. Its status is 255 if the first answers otherwise.
 fn alike(first: Answer, mut second: Answer) -> Answer {
     if !second.is_like(&first) {
         second.status = 255;
@@ -75,7 +75,7 @@ fn alike(first: Answer, mut second: Answer) -> Answer {
     second
 }
 
-// What a call answered, if it answers the same with each of these options; else the status is 255.
+// The answer of a call, if it answers the same with each of these options; otherwise the status is 255.
 fn same_with<R: Threads + Sync>(
     rt: &R,
     alloc: Global,

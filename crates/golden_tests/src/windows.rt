@@ -1,5 +1,5 @@
-//! Runs of more cycles than a tray keeps values, also with a slow clock and from a snapshot on; stops about the end of the first window, and
-//! snapshots there.
+//! Runs of more cycles than a tray keeps values, also with a slow clock and from a snapshot; stops about the end of the first window, and snapshots
+//! there.
 use crate::calls::{Answer, RESUME, RUN, ask, call, files_of};
 use gg_io::{FailingPut, hold};
 use itoa::Buffer;
@@ -10,7 +10,7 @@ use std::thread::Threads;
 // A cycle without a stop, or the number of a put that isn't made.
 const NONE: u64 = u64::MAX;
 
-// The words of `save`, but for the cycle.
+// The words of `save`, without the cycle.
 const SAVE: &str = "golden save k1.fir p.json k1.trace";
 
 // The lowest bit of a register that counts.
@@ -25,8 +25,8 @@ fn circuit_of(alloc: Global, stop: u64) -> Result<String, AllocError> {
     format!(in alloc; "{COUNTS}stop(clock, eq(r, UInt<11>({stop})), 1)\n")
 }
 
-// A header and the rows of the cycles from `first` on and below `end`, which end in turn with one text and with the other. If the clock is slow,
-// three after another end alike.
+// A header and the rows of the cycles not below `first` and below `end`. They end in turn with one text and with the other. If the clock is slow,
+// three in a row end alike.
 fn rows_of(
     alloc: Global,
     header: &str,
@@ -68,7 +68,7 @@ fn run_long<R: Threads + Sync>(
     call(rt, alloc, line.as_str(), files, loads, puts, err_puts)
 }
 
-// Whether the call answered this status and line, after so many rows.
+// Whether the call answered this status and line, after this many rows.
 fn ends_after(
     alloc: Global,
     answer: &Answer,
@@ -111,7 +111,7 @@ static LONG: [Long; 5] = [
     ),
 ];
 
-// A stop in the last cycle of the first window, in the first one of the second, and behind that; and one whose row can't be written.
+// A stop in the last cycle of the first window, in the first one of the second, and in a later one; and one with a row that can't be written.
 static STOPPED: [Long; 9] = [
     ("--workers 0", 1_023, NONE, 0, 1_024, ""),
     ("--workers 3", 1_023, NONE, 0, 1_024, ""),
@@ -131,7 +131,7 @@ static STOPPED: [Long; 9] = [
     ("--mono", 1_024, 1_025, 4, 1_024, "golden: cannot write\n"),
 ];
 
-// The clock has an edge in every third cycle: in 1,025, the second one of the second window. The register is 341 from 1,023 on.
+// The clock has an edge in every third cycle: in 1,025, the second one of the second window. The register is 341 starting at 1,023.
 static SLOW: [Long; 3] = [
     ("--workers 0", 341, NONE, 0, 1_026, ""),
     ("--workers 2", 341, NONE, 0, 1_026, ""),
@@ -189,10 +189,10 @@ fn ask_snapped<R: Threads + Sync>(
     ask(rt, alloc, line.as_str(), files)
 }
 
-// The options, the cycle of the stop, and the cycle behind the last row.
+// The options, the cycle of the stop, and the cycle after the last row.
 type Rest = (&'static str, u64, u64);
 
-// From cycle 2 on, so that the first window ends with cycle 1,025: all rows, and stops in its last cycle and behind it.
+// Starting at cycle 2, and so the first window ends with cycle 1,025: all rows, and stops in its last cycle and after it.
 static RESTS: [Rest; 4] = [
     ("", NONE, 1_028),
     (" --workers 2", NONE, 1_028),
@@ -219,7 +219,7 @@ fn rests_of_two_windows(rt: HostRuntime) {
 // The cycle and the options, the cycle of the stop, the status, and what is on `out` and on `err`.
 type Saved = (&'static str, u64, u8, &'static str, &'static str);
 
-// A snapshot in the second window, at its beginning, and behind the last cycle; with a stop in the last cycle of the first window, in the first of the
+// A snapshot in the second window, at its beginning, and after the last cycle; with a stop in the last cycle of the first window, in the first of the
 // second, and in the last of all.
 static SAVED: [Saved; 8] = [
     (

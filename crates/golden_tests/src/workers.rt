@@ -10,7 +10,7 @@ use std::sync::atomic::{AtomicU64, Ordering};
 use std::test::Fail;
 use std::thread::{self, Threads};
 
-// A gate at which each of two workers waits for the other before its first turn: how many are there, and how many have seen both there.
+// A gate where each of two workers waits for the other before its first turn: how many are there, and how many have seen both there.
 struct Meeting {
     here: AtomicU64,
     met: AtomicU64,
@@ -41,8 +41,8 @@ impl Gate for Meeting {
     }
 }
 
-// A sink that looks at its second put, the first row, whether two workers have met. It tells nothing of what was written, and keeps
-// it for the test to see.
+// A sink that looks at its second put, the first row, whether two workers have met. Its contract says nothing of what was written, and the test looks
+// at it.
 #[derive(Drop)]
 struct WatchingSink<'a> {
     gate: &'a Meeting,

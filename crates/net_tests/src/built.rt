@@ -1,4 +1,4 @@
-//! The network of a plan, and what a test looks at in it.
+//! The network of a plan, and facts about it that a test looks at.
 ghost use Rattle.std.specs.Prelude.{◌≡◌, ℕ, ◌<◌, ◌≤◌, true, length};
 ghost use Rattle.gg_build.specs.inside.Build.{IsToRun, NeedsNone};
 ghost use Rattle.gg_net.specs.Network.{cycle_at};
@@ -42,7 +42,7 @@ pub(crate) fn value_of(digits: &str) -> Option<u128> {
     u128::from_str_radix(digits, 16).ok()
 }
 
-// Whether the last machine is a tray that keeps these values, one for each cycle from 0 on.
+// Whether the last machine is a tray that keeps these values, one for each cycle, starting at cycle 0.
 pub(crate) fn keeps<Z: Streams>(net: &Net<Node<'_, Echo>, Z>, values: &str) -> bool {
     net.within_limits();
     let machines = net.machines();

@@ -1,4 +1,4 @@
-//! Cases: a circuit, partitions of it, and what is expected, as texts. A case is a paragraph.
+//! Cases: a circuit, partitions of it, and expected results, as texts. A case is a paragraph.
 //!
 //! ```text
 //! # A line that begins so says what the case is about.
@@ -8,8 +8,9 @@
 //! keeps 11 83
 //! ```
 //!
-//! `circuit` has the name of a circuit (`memory` is one of latency 0), and `trace` the lines of a trace, each behind a bar. Each line `on` has a partition. `keeps` has the values that
-//! the last machine, a tray, keeps at the end, one for each cycle. networks.rt and workers/runs.rt say what else a case of theirs has.
+//! `circuit` has the name of a circuit (`memory` is one of latency 0), and `trace` the lines of a trace, each after a bar. Each line `on` has a
+//! partition. `keeps` has the values that the last machine, a tray, keeps at the end, one for each cycle. networks.rt and workers/runs.rt describe
+//! the other lines of their cases.
 use crate::texts::Circuit::Memory;
 use crate::texts::{
     BACK, COUNTER, Circuit, DEEP, FORK, FOUR, FOUR_PORTS, PAIR, SUMS, TOGGLE, text_of,
@@ -32,7 +33,7 @@ static CIRCUITS: [(&str, &str); 9] = [
 // The memory of latency 0.
 static MEMORY: Circuit = Memory("read-latency => 0", "read-under-write => undefined");
 
-// What stands behind this word in the first line of a case that begins with it. Empty if there is no such line.
+// The rest of the first line of a case that begins with this word. Empty if there is no such line.
 pub(crate) fn field<'a>(case: &'a str, key: &str) -> &'a str {
     for line in case.lines() {
         if let Some(rest) = line.strip_prefix(key) {

@@ -1,5 +1,4 @@
-//! Tests of what stands below a network and about it: simulators, parts and needs, units, clocks, trays, logs of a replay, and networks that begin at
-//! a later cycle.
+//! Tests around a network: simulators, parts and needs, units, clocks, trays, logs of a replay, and networks that begin at a later cycle.
 
 mod begins;
 mod clocks;

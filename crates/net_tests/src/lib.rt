@@ -1,17 +1,16 @@
-//! Tests of networks, from their cut to their end, and of what stands below and about them: what no contract says, namely that each public call
-//! succeeds with ample memory, and what circuits do that were worked out by hand. Circuits, partitions and traces are texts.
+//! Tests of networks, from their cut to their end, and of the crates around them: each public call succeeds with ample memory, and circuits do what was
+//! worked out by hand, which no contract says. Circuits, partitions and traces are texts.
 //!
 //! - `networks`, with `direct`, `pipes` and `sharing`: networks that begin at cycle 0;
 //! - `circuits`: simulators, parts and needs, units, clocks, trays, logs of a replay, and networks that begin at a later cycle;
 //! - `bridges`, `links`, `workers`: gg_bridge, the links between threads, and gg_workers;
 //! - `cases`, `texts`, `reading`, `built`, `meeting`: what they share.
 //!
-//! A row of a table is a circuit and what is expected of it. Those of `networks` and `workers` are texts, since a table of many slices makes the proof of its
-//! test long. One loop goes over all tables of a kind, since each further test function
-//! makes the proof longer.
+//! A row of a table is a circuit and its expected results. The rows of `networks` and `workers` are texts, because a table of many slices makes the
+//! proof of its test long. One loop goes over all tables of a kind, because each further test function makes the proof longer.
 //!
-//! A value of a design, a piece, a plan or a network makes a proof long: it is dropped once for each way out of the function that owns it.
-//! So a function that owns one has a single way out, and all others take references.
+//! A value of a design, a piece, a plan or a network makes a proof long: it is dropped once for each way out of the function that owns it. Therefore
+//! a function that owns one has a single way out, and all others take references.
 #![tactic(auto)]
 
 #[cfg(test)]

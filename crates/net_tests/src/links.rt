@@ -1,5 +1,5 @@
-//! Tests of the links: what no contract says, namely that each call succeeds with ample memory, and that a link carries
-//! values between two threads that run side by side. Each is one function over [`Link`](gg_link::Link), called for the
+//! Tests of the links. They show what no contract says: each call succeeds with ample memory, and a link carries values
+//! between two threads that run at the same time. Each is one function over [`Link`](gg_link::Link), called for the
 //! ring and for the queue.
 
 mod calls;

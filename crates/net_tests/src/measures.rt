@@ -1,4 +1,4 @@
-//! gg_measure: what is left to do in a network, and doing it in two orders.
+//! gg_measure: the steps that are left in a network, and doing them in two orders.
 use crate::built::{is_at_most, keeps};
 use crate::cases::field;
 use crate::networks::Case;
@@ -7,7 +7,7 @@ use gg_build::Node;
 use gg_measure::{Order, left, possible, run_by, run_to, run_to_end};
 use gg_net::{Net, Streams};
 
-// Does the steps that `possible` answers, one after another. Returns how many were done, at most this many.
+// Does the steps that `possible` returns, one after another. Returns how many were done, at most this many.
 fn follow<Z: Streams>(net: &mut Net<Node<'_, Echo>, Z>, most: u64) -> u64 {
     for done in 0..most {
         let Some(event) = possible(net) else {
@@ -34,8 +34,8 @@ fn run_by_order<Z: Streams>(net: &mut Net<Node<'_, Echo>, Z>) -> bool {
     begins
 }
 
-// Runs a network that is before its first cycle to cycle 1, and then by an order to its end. Returns whether what was left
-// at cycle 1 is what the other cycles take.
+// Runs a network that is before its first cycle to cycle 1, and then by an order to its end. Returns whether the steps left at cycle 1 are the steps
+// of the other cycles.
 fn run_in_two<Z: Streams>(net: &mut Net<Node<'_, Echo>, Z>, case: &Case<'_>) -> bool {
     let begins = net.end() >= 1 && is_at_most(net, 1);
     if begins {
@@ -125,7 +125,7 @@ pub(crate) fn run_alike<Z: Streams>(
     are_alike(one, other, case)
 }
 
-/// Whether two networks end alike, of which the one goes as `possible` answers and the other as `run_to` does. Both are
+// Whether two networks end alike. The one does the steps that `possible` returns, and the other goes by `run_to`. Both are
 // before their first cycle.
 pub(crate) fn end_alike<Z: Streams>(
     one: &mut Net<Node<'_, Echo>, Z>,

@@ -1,4 +1,4 @@
-//! A gate at which two workers meet.
+//! A gate where two workers meet.
 use gg_io::Gate;
 use std::sync::atomic::{AtomicU64, Ordering};
 use std::thread;
@@ -26,7 +26,7 @@ impl Flags {
         }
     }
 
-    // Tells that the worker has begun, and looks at most 10,000,000 times whether the other has.
+    // Sets the flag that the worker has begun, and looks at most 10,000,000 times whether the other has.
     fn meet(&self, other: &Flags) {
         self.begun.store(1, Ordering::SeqCst);
         for _ in 0..10_000_000 {
@@ -39,7 +39,7 @@ impl Flags {
     }
 }
 
-// A gate at which each of two workers waits for the other before its first turn.
+// A gate where each of two workers waits for the other before its first turn.
 pub(crate) struct Meeting {
     first: Flags,
     second: Flags,

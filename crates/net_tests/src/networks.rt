@@ -1,6 +1,6 @@
 //! gg_cut, gg_build, gg_net and gg_memunit: networks are built, and run to their end.
 //!
-//! What a case has, beside what cases.rt says:
+//! The lines of a case here, besides those in cases.rt:
 //!
 //! ```text
 //! has 5 machines 8 channels 2 cycles 42 steps
@@ -14,12 +14,12 @@
 //! ```
 //!
 //! - `hosts`: each machine's host;
-//! - `steps`: the steps of a cycle: the number of a channel with `F` for a token that is given on it and with `L` for one that is taken, that of a port of
-//!   machine 1 with `S` for an access, and that of a machine with `E` for the end of its cycle;
-//! - `serves`: of machine 1 the numbers of its memory's ports, of those that are served in a cycle, and of all times that one was served;
-//! - `refuses`: a step that is refused, maybe behind others, and why;
-//! - `calls`: the first steps of a run to the end, as `is_in_order` reads them: round by round, in each the machines by number, and of each its ins, its outs, its
-//!   ports and the end of its cycle, as far as each may be done. The order isn't told if there is no such line;
+//! - `steps`: the steps of a cycle: the number of a channel with `F` if its token is given and with `L` if it is taken, the number of a port of
+//!   machine 1 with `S` for an access, and the number of a machine with `E` for the end of its cycle;
+//! - `serves`: three numbers about machine 1: its memory's ports, the ports that are served in a cycle, and all accesses;
+//! - `refuses`: a step that is refused, maybe after others, and why;
+//! - `calls`: the first steps of a run to the end, as `is_in_order` reads them: round by round, in each the machines by number, and of each its ins,
+//!   its outs, its ports and the end of its cycle, as far as each may be done. Without such a line the order isn't checked;
 //! - `each`: the steps of each cycle where all machines are brought to one cycle before any goes on: by calls of `run_to`, and by one of `run_by`.
 ghost use Rattle.std.specs.Prelude.{◌≡◌, ◌<◌, [], length};
 ghost use Rattle.gg_build.specs.inside.Build.{IsToRun, NeedsNone};
@@ -47,16 +47,16 @@ use std::alloc::Global;
 use std::marker::Brand;
 use std::process::Abort;
 
-// The words with which the lines of a case begin.
+// The first words of a case's lines.
 static KEYS: [&str; 11] = [
     "circuit", "trace", "on", "has", "hosts", "keeps", "steps", "serves", "refuses", "calls",
     "each",
 ];
 
-// What is expected of a network.
+// The expected results of a network.
 #[derive(Clone, Copy)]
 pub(crate) struct Case<'a> {
-    // all that is said
+    // the whole case
     pub(crate) text: &'a str,
     // the numbers of machines, channels and cycles
     pub(crate) machines: u32,
@@ -190,7 +190,7 @@ pub(crate) fn goes_once<Z: Streams>(net: &mut Net<Node<'_, Echo>, Z>, steps: &st
     true
 }
 
-// Whether the steps of a cycle can be done so many times.
+// Whether the steps of a cycle can be done this many times.
 fn goes<Z: Streams>(net: &mut Net<Node<'_, Echo>, Z>, steps: &str, times: u64) -> bool {
     for _ in 0..times {
         if !goes_once(net, steps) {
@@ -246,8 +246,7 @@ fn is_spent<Z: Streams>(net: &Net<Node<'_, Echo>, Z>, channel: u32) -> bool
         && net.newest(channel).is_some() == first.is_some()
 }
 
-// Three numbers of a line: of machine 1 those of its memory's ports, of those that are served in a cycle, and of all times that one was served. All are
-// 0 if there is no line.
+// Three numbers of a line: of machine 1 its memory's ports, the ports that are served in a cycle, and all accesses. All are 0 if there is no line.
 fn served_of(line: &str) -> Option<(u32, u32, u64)> {
     if line.is_empty() {
         return Some((0, 0, 0));
@@ -272,7 +271,7 @@ fn serves<Z: Streams>(net: &Net<Node<'_, Echo>, Z>, case: &Case<'_>) -> bool {
         && net.serves(1) == times
 }
 
-// Whether a network is as expected behind its last cycle.
+// Whether a network is as expected after its last cycle.
 fn closes<Z: Streams>(net: &Net<Node<'_, Echo>, Z>, case: &Case<'_>) -> bool {
     for machine in 0..case.machines {
         if machine as usize >= net.machines() || !has_ended(net, machine) {
@@ -287,7 +286,7 @@ fn closes<Z: Streams>(net: &Net<Node<'_, Echo>, Z>, case: &Case<'_>) -> bool {
     serves(net, case)
 }
 
-// Whether a network runs as expected, where it is taken apart behind its first cycle.
+// Whether a network runs as expected. It is taken apart after its first cycle.
 fn runs<Z: Streams>(mut net: Net<Node<'_, Echo>, Z>, case: &Case<'_>) -> bool {
     let steps = field(case.text, "steps ");
     let begins = opens(&net, case) && goes(&mut net, steps, 1);
@@ -320,8 +319,7 @@ fn is_built_twice<Z: Streams>(alloc: Global, plan: &Plan, inputs: &Trace, case: 
     }
 }
 
-// Whether the network of a plan without bridges runs as expected. What it computes is picked where this is called, by the design and the
-// request.
+// Whether the network of a plan without bridges runs as expected. The caller picks what it computes, by the design and the request.
 fn is_built<Z: Streams>(
     alloc: Global,
     _design: &Design,
@@ -356,7 +354,7 @@ fn is_planned(
     requires fed { IsColumns design.now.circuit inputs.now.rows inputs.now.columns }
     requires alone { request.now.bridges ≡ [] }
 {
-    // for the invariant alone
+    // for the invariant only
     let _ = design.order();
     let _ = design.piece();
     let _ = inputs.rows();
@@ -370,7 +368,7 @@ fn is_planned(
     }
 }
 
-// The same, where the request has to have no bridges.
+// Whether the network of a design and a request runs as expected, where the request has to have no bridges.
 fn is_cut(
     alloc: Global,
     design: &Design,
@@ -413,7 +411,7 @@ fn is_network(alloc: Global, circuit: &str, partition: &str, trace: &str, case: 
     }
 }
 
-// The same for the circuit and the trace of a case.
+// Whether the network of a case's circuit and this partition runs as expected on the case's trace.
 fn is_right(alloc: Global, partition: &str, case: &Case<'_>) -> bool {
     match circuit_of(alloc, case.text) {
         Ok(circuit) => match trace_of(alloc, case.text) {

@@ -1,4 +1,4 @@
-//! Hosts that note the calls by which steps are done.
+//! Hosts that note the calls that do steps.
 ghost use Rattle.std.specs.Prelude.{◌≡◌, ◌<◌, length, map, is_some, slice_set, IfOk};
 ghost use Rattle.gg_node.specs.Machine.{machine_at, latch_at, flag_at, missing};
 ghost use Rattle.gg_node.specs.inside.Machine.{due};
@@ -10,7 +10,7 @@ use gg_node::Host;
 use std::alloc::{AllocError, Global};
 use std::sync::atomic::{AtomicU64, Ordering};
 
-// A call that does a step: the number of its host, the letter of what it does, and the place of an in or an out, or the number of a port.
+// A call that does a step: the number of its host, the letter of the step, and the place of an in or an out, or the number of a port.
 fn call(host: u64, letter: u8, place: u64) -> u64 {
     host.saturating_mul(65_536)
         .saturating_add(u64::from(letter).saturating_mul(256))
@@ -50,7 +50,7 @@ impl Drop for Notes {
 }
 
 impl Notes {
-    // Room for calls, none of which is noted.
+    // Room for calls, and no call noted.
     //
     // # Errors
     //
@@ -66,7 +66,7 @@ impl Notes {
         })
     }
 
-    // Notes a call behind all others.
+    // Notes a call after all others.
     fn add(&self, call: u64) {
         let count = self.count.load(Ordering::SeqCst);
         if let Some(place) = self.calls.as_slice().get(count as usize) {
@@ -80,8 +80,7 @@ impl Notes {
         self.count.load(Ordering::SeqCst)
     }
 
-    // How many calls there are up to the end of these words, if the calls behind the first `begun` are theirs, in their order. None if they
-    // aren't.
+    // How many calls there are up to the end of these words, if the calls after the first `begun` are theirs, in their order. None if they aren't.
     pub(crate) fn behind(&self, begun: u64, words: &str) -> Option<u64> {
         let mut count = begun;
         for word in words.split(' ') {

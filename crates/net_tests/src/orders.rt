@@ -1,4 +1,4 @@
-//! gg_measure: the order in which `run_to_end`, `run_to` and `run_by` do steps, as the hosts of a network see it.
+//! gg_measure: the order of the steps of `run_to_end`, `run_to` and `run_by`, as the hosts of a network see it.
 ghost use Rattle.std.specs.Prelude.{◌≡◌, ℕ, ◌<◌, ◌≤◌, length, true};
 ghost use Rattle.gg_build.specs.inside.Build.{IsToRun, NeedsNone};
 ghost use Rattle.gg_net.specs.Network.{cycle_at};
@@ -17,9 +17,7 @@ use std::alloc::{AllocError, Global};
 // How a network is run to its end.
 #[derive(Clone, Copy)]
 enum Way {
-    // At once.
     AtOnce,
-    // Cycle by cycle.
     ByCycles,
     // By an order that is noted in the first cycle.
     ByOrder,
@@ -44,7 +42,7 @@ fn with_notes<'a, H: Host, Z: Streams>(
     }))
 }
 
-// Whether no machine is above a cycle, and the network has so many to do.
+// Whether no machine is above a cycle, and the network has at least that many to do.
 fn may_go_to<H: Host, Z: Streams>(net: &Net<H, Z>, cycle: u64) -> bool
     ensures within { result ≡ true → cycle ≤ net.now.end }
     ensures none_above { result ≡ true → (m : ℕ) → m < length net.now.machines → cycle_at net.now m ≤ cycle }
@@ -138,7 +136,7 @@ pub(crate) fn is_in_order<Z: Streams>(
     }
 }
 
-// Whether the calls are those of so many cycles, each with these words.
+// Whether the calls are the calls of this many cycles, each with these words.
 fn are_cycles(notes: &Notes, each: &str, cycles: u64) -> bool {
     let mut count: u64 = 0;
     for _ in 0..cycles {

@@ -1,9 +1,9 @@
 //! gg_cut and gg_build: channels that open with a token.
 
 // Of two units that feed each other in one cycle, the first takes what the second gave a cycle before; then the output has the value of a cycle
-// before, and then the input. The first without the hub; then what the second gives comes a cycle late to the hub, which so passes it on. A unit
-// that gives to itself takes its output a cycle late. Of two units on one host, one takes its input a cycle late. A memory that is a machine of its
-// own, whose data come a cycle late to the hub.
+// before, and then the input. The first without the hub; then what the second gives comes a cycle late to the hub, which passes it on as late. A unit
+// that gives to itself takes its output a cycle late. Of two units on one host, one takes its input a cycle late. A memory is a machine of its own,
+// and its data come a cycle late to the hub.
 pub(crate) const PIPED: &str = r#"
 circuit pair
 trace | cycle x | 0 0f | 1 81

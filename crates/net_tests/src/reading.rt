@@ -51,7 +51,7 @@ pub(crate) fn request_of(alloc: Global, partition: &str) -> Option<Request>
     }
 }
 
-// What a trace gives the inputs of a design. `None` if it has a fault, or if an allocation fails.
+// The input trace of a design from a text. `None` if it has a fault, or if an allocation fails.
 pub(crate) fn inputs_of(alloc: Global, design: &Design, trace: &str) -> Option<Trace>
     ensures { IfSome result (λ trace. IsColumns design.now.circuit trace.rows trace.columns) }
 {

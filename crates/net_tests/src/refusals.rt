@@ -1,4 +1,4 @@
-//! gg_net: steps that are refused, and runs that go on behind them.
+//! gg_net: steps that are refused, and runs that go on after them.
 ghost use Rattle.gg_build.specs.inside.Build.{IsToRun, NeedsNone};
 
 use crate::built::build_alone;
@@ -22,7 +22,7 @@ fn is_cause(alloc: Global, found: Option<StepRefusal>, cause: &str) -> bool {
     }
 }
 
-// Whether a step is refused, maybe behind others, for the cause that is told. It is tested, and then tried twice.
+// Whether a step is refused, maybe after others, for this cause. It is tested, and then tried twice.
 fn refuses<Z: Streams>(alloc: Global, net: &mut Net<Node<'_, Echo>, Z>, refusal: &str) -> bool {
     let Some((what, cause)) = refusal.split_once(": ") else {
         return false;

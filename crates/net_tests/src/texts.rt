@@ -47,7 +47,7 @@ pub(crate) const THREE_CYCLES: &str = "cycle\n0\n1\n2\n";
 // A trace of six cycles without inputs.
 pub(crate) const SIX_CYCLES: &str = "cycle\n0\n1\n2\n3\n4\n5\n";
 
-// A counter without outputs that asks for a stop at 2.
+// A counter without outputs, with a stop at 2.
 pub(crate) const HALT: &str =
     "circuit Halt :\nmodule Halt :\ninput clock : Clock\nreg c : UInt<4>, clock\nc <= tail(add(c, UInt<1>(\"h1\")), 1)\nstop(clock, eq(c, UInt<2>(\"h2\")), 1) : done\n";
 
@@ -55,15 +55,15 @@ pub(crate) const HALT: &str =
 pub(crate) const DUAL: &str =
     "circuit Dual :\nmodule Dual :\ninput c1 : Clock\ninput c2 : Clock\noutput q : UInt<4>\nreg r : UInt<4>, c1\nreg s : UInt<4>, c2\nq <= s\nr <= tail(add(r, UInt<1>(\"h1\")), 1)\ns <= tail(add(s, r), 1)\n";
 
-// Two units of two clocks each, of which the second has the clocks the other way round. A unit has a register of its second clock, and, two
-// instances further down, a memory of its first: the word at the least bit of its input sums up the inputs.
+// Two units of two clocks each. The second has the clocks the other way round. A unit has a register of its second clock, and, two instances further
+// down, a memory of its first: the word at the least bit of its input sums up the inputs.
 pub(crate) const DEEP: &str =
     "circuit Deep :\nmodule Leaf :\ninput c : Clock\ninput a : UInt<8>\noutput s : UInt<8>\nmem m :\ndata-type => UInt<8>\ndepth => 2\nread-latency => 0\nwrite-latency => 1\nreader => r\nwriter => w\nread-under-write => undefined\nm.r.addr <= bits(a, 0, 0)\nm.r.en <= UInt<1>(1)\nm.r.clk <= c\nm.w.addr <= bits(a, 0, 0)\nm.w.en <= UInt<1>(1)\nm.w.clk <= c\nm.w.mask <= UInt<1>(1)\nm.w.data <= bits(add(m.r.data, a), 7, 0)\ns <= m.r.data\nmodule Mid :\ninput c : Clock\ninput a : UInt<8>\noutput s : UInt<8>\noutput t : UInt<8>\ninst leaf of Leaf\nleaf.c <= c\nleaf.a <= a\ns <= leaf.s\nt <= xor(leaf.s, a)\nmodule Outer :\ninput c : Clock\ninput d : Clock\ninput a : UInt<8>\noutput s : UInt<8>\nreg r : UInt<8>, d\ninst mid of Mid\nmid.c <= c\nmid.a <= a\ns <= bits(add(mid.s, r), 7, 0)\nr <= mid.t\nmodule Deep :\ninput c1 : Clock\ninput c2 : Clock\ninput x : UInt<8>\noutput q : UInt<16>\ninst u of Outer\ninst v of Outer\nu.c <= c1\nu.d <= c2\nv.c <= c2\nv.d <= c1\nu.a <= x\nv.a <= not(x)\nq <= cat(u.s, v.s)\n";
 
 // A trace of five cycles for them.
 pub(crate) const DEEP_TRACE: &str = "cycle x\n0 01\n1 10\n2 83\n3 05\n4 62\n";
 
-// A memory of two words, up to its latency and behind it. Its reader reads address 0, and its writer writes 7 there in each cycle.
+// A memory of two words, up to its latency. Its reader reads address 0, and its writer writes 7 there in each cycle.
 const MEMORY_FRONT: &str =
     "circuit Mem :\nmodule Mem :\ninput clock : Clock\noutput o : UInt<8>\nmem m :\ndata-type => UInt<8>\ndepth => 2\nwrite-latency => 1\nreader => r\nwriter => w\n";
 
@@ -79,7 +79,7 @@ fn memory(alloc: Global, latency: &str, under_write: &str) -> Result<String, All
 pub(crate) enum Circuit {
     // This text.
     Whole(&'static str),
-    // The memory with these two lines: of its latency, and of what is read of a word that is written.
+    // The memory with these two lines: its latency, and the value that is read of a word that is written.
     Memory(&'static str, &'static str),
 }
 

@@ -1,5 +1,5 @@
-//! Tests of gg_workers: what no contract says, namely that `work` does its work where memory is ample, and that two workers run side by
-//! side. The networks are those of circuits as texts.
+//! Tests of gg_workers. They show what no contract says: `work` does its work if memory is ample, and two workers run at the same time. The networks
+//! come from circuits as texts.
 
 mod beside;
 mod optional_node;

@@ -7,7 +7,6 @@ use std::io::{self, Read, Seek, SeekFrom, Write};
 // room it fails, or reads and writes nothing. As a file system it has itself under every name.
 #[derive(Clone, Copy)]
 pub(crate) struct Few {
-    // The bytes.
     pub(crate) bytes: [u8; 12],
     // The place of the next one.
     pub(crate) next: usize,
@@ -47,7 +46,7 @@ impl Write for Few {
     }
 }
 
-// What no test asks for.
+// The answer of calls that no test makes.
 fn unsupported<T>() -> io::Result<T> {
     Err(io::Error::from(io::ErrorKind::Unsupported))
 }

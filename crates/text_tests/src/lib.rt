@@ -1,5 +1,5 @@
-//! Tests of crates that read or write texts and files, of the operations of gg_bits, and of the walk over graphs. They show what no contract says: that
-//! with ample memory there is an answer, and that the answers are those worked out by hand.
+//! Tests of crates that read or write texts and files, of the operations of gg_bits, and of the walk over graphs. They show what no contract says:
+//! with ample memory there is an answer, and the answers are as worked out by hand.
 //!
 //! - `bits`: the operations of gg_bits, by tables;
 //! - `front`: the lexer, the reader and the front end;

@@ -1,4 +1,4 @@
-//! gg_partfile: a partition with all its keys is read, and faults tell the key.
+//! gg_partfile: a partition with all its keys is read, and faults name the key.
 use gg_partfile::{Request, read_partition};
 
 static WHOLE: &str =
@@ -15,7 +15,7 @@ fn is_whole(request: &Request) -> bool {
         && request.capacity.as_slice().len() == 2
 }
 
-// A partition that is refused, and what its fault prints.
+// A partition that is refused, and the text of its fault.
 static FAULTS: [(&[u8], &str); 3] = [
     (b"{\"units\": [\"\xff\"]}", "P1 -"),
     (b"{\"zone\": 0, \"clock\": 0}", "P1 clock"),

@@ -10,7 +10,6 @@ use std::alloc::{AllocError, Global};
 // The ports of a trace.
 #[derive(Clone, Copy)]
 pub(crate) enum Inputs {
-    // None.
     None,
     // `reset` of a counter.
     Reset,

@@ -1,4 +1,4 @@
-//! gg_io: shelves. What loads answer, and how the counts rise.
+//! gg_io: shelves, the answers of loads, and how the counts rise.
 use crate::fakes::Few;
 use gg_io::{FileShelf, LoadFail, MemShelf, Shelf, SureShelf, hold};
 use std::alloc::Global;
@@ -6,10 +6,10 @@ use std::collections::BTreeMap;
 use std::process::Abort;
 use std::{fs, mem};
 
-// A name and a limit, and what a load answers.
+// A name and a limit, and the answer of a load.
 type Load<'a> = (&'a str, u64, Result<&'a [u8], LoadFail>);
 
-// Each load in turn answers what its row says. One that doesn't is shown.
+// Checks that each load in turn has the answer of its row. One that hasn't is shown.
 fn check_loads<S: Shelf>(rt: &impl Abort, alloc: Global, shelf: &mut S, loads: &[Load<'_>]) {
     for (name, limit, want) in loads {
         let is_right = match shelf.load(alloc, name, *limit) {
@@ -55,7 +55,7 @@ fn shelves_in_memory(rt: HostRuntime) {
     assert!(rt; sure.cuts == 1);
 }
 
-// A file of the system that is longer than one read asks for, one that is cut, and one that is missing.
+// A file of the system that is longer than one read, one that is cut, and one that is missing.
 #[test]
 fn shelf_of_the_system(rt: HostRuntime) {
     let mut text = Vec::new(rt.alloc());
@@ -72,7 +72,7 @@ fn shelf_of_the_system(rt: HostRuntime) {
     assert!(rt; fs::remove_file(&rt, "long.txt").is_ok());
 }
 
-// How many bytes a file has, whether reads fail after them, and what a load of at most eight bytes answers.
+// How many bytes a file has, whether reads fail after them, and the answer of a load of at most eight bytes.
 static READS: [(usize, bool, Result<&[u8], LoadFail>); 6] = [
     (0, false, Ok(b"")),
     (7, false, Ok(b"1234567")),

@@ -1,4 +1,4 @@
-//! gg_io: sinks. What puts answer, what is then written, and how the counts rise.
+//! gg_io: sinks, the answers of puts, the bytes written then, and how the counts rise.
 ghost use Rattle.std.specs.Io.KnownBytes.{Appends};
 ghost use Rattle.std.specs.Prelude.{◌≡◌, ◌++◌, OnOk};
 ghost use Rattle.gg_io.specs.inside.PutFail.{faults_after_put};
@@ -19,7 +19,7 @@ static FAILING: [FailingPut; 2] = [
     },
 ];
 
-// A piece, what its put answers, and what is written then.
+// A piece, the answer of its put, and the bytes written then.
 type Put = (&'static [u8], Result<(), PutFail>, &'static [u8]);
 
 static PUTS: [Put; 4] = [
@@ -69,7 +69,7 @@ fn put_twice<W: Write + Drop>(
     sink.put(two)
 }
 
-// For how many bytes a stream has room, whether it then fails, what a put of five bytes answers, and what is written then.
+// How many bytes a stream has room for, whether it then fails, the answer of a put of five bytes, and the bytes written then.
 static STREAMS: [(usize, bool, Result<(), PutFail>, &[u8; 12]); 4] = [
     (5, true, Ok(()), b"12345......."),
     (5, false, Ok(()), b"12345......."),

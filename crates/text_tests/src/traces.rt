@@ -1,4 +1,4 @@
-//! gg_trace: texts with their columns, or with their first fault, and what is printed, all worked by hand.
+//! gg_trace: texts with their columns, or with their first fault, and printed rows, all worked by hand.
 use crate::ports::Inputs::{self, Reset, XAndY};
 use crate::ports::ports_of;
 use gg_trace::TraceFault::{
@@ -11,7 +11,7 @@ use std::alloc::{AllocError, Global};
 // The place of a port, the values of its column, and the last row (empty: there is none).
 type Column = (usize, &'static [u128], &'static [u128]);
 
-// The ports, a text, and a column that it gives, or its first fault.
+// The ports, a text, and the expected column, or its first fault.
 type Read = (Inputs, &'static [u8], Result<Column, TraceFault>);
 
 static TEXTS: [Read; 31] = [
@@ -110,7 +110,7 @@ static TEXTS: [Read; 31] = [
     (XAndY, b"cycle y\n0 0\n", Err(Heading { field: 2 })),
 ];
 
-// What a text gives with these ports.
+// The trace of a text with these ports.
 fn read(alloc: Global, inputs: Inputs, text: &[u8]) -> Result<Trace, TraceFault> {
     let ports = ports_of(alloc, inputs)?;
     read_trace(alloc, &ports, text)
@@ -131,7 +131,7 @@ fn has(alloc: Global, trace: &Trace, column: &Column) -> bool {
     }
 }
 
-// A row that fails is shown by its place and what it should have.
+// A row that fails is shown by its place and its expected answer.
 #[test]
 fn texts(rt: HostRuntime) {
     for (place, (inputs, text, want)) in TEXTS.iter().enumerate() {
@@ -146,14 +146,14 @@ fn texts(rt: HostRuntime) {
     }
 }
 
-// How many rows are kept of a trace of three, and what is left.
+// How many rows are kept of a trace of three, and the rest.
 static FIRST: [(u64, Column); 3] = [
     (2, (0, &[10, 11], &[11, 2])),
     (2, (1, &[1, 2], &[11, 2])),
     (0, (1, &[], &[])),
 ];
 
-// Whether the first rows of a trace of three, so many, have this column and this last row.
+// Whether the first rows of a trace of three, `rows` of them, have this column and this last row.
 fn has_first(alloc: Global, rows: u64, column: &Column) -> bool {
     match read(alloc, XAndY, b"cycle x y\n0 a 1\n1 b 2\n2 c 3\n") {
         Ok(trace) => rows <= trace.rows() && has(alloc, &trace.first_rows(rows), column),
@@ -168,7 +168,7 @@ fn first_rows(rt: HostRuntime) {
     }
 }
 
-// How many rows are read of a trace with so many rows and no ports.
+// How many rows are read of a trace with this many rows and no ports.
 fn rows_of(alloc: Global, rows: u64) -> Result<u64, TraceFault> {
     let mut text = String::from_str(alloc, "cycle\n")?;
     for row in 0..rows {

@@ -4,7 +4,7 @@ ghost use Rattle.gg_graph.specs.inside.Lists.{HasTarget, HasTargetBelow, none_be
 
 use gg_graph::{Graph, Target, WalkFault, walk};
 
-// A graph whose nodes have three places each. A number that is not a node stands for a place without a target.
+// A graph. Each node has three places. A number that is not a node means a place without a target.
 #[derive(Drop)]
 struct Table<'a> {
     targets: &'a [[u32; 3]],
@@ -57,7 +57,7 @@ static GRAPHS: [Row; 3] = [
         &[[1, 2, 1], [9, 3, 9], [9, 9, 3], [9, 9, 9]],
         Ok(&[3, 1, 2, 0]),
     ),
-    // a ring behind a tail
+    // a ring after a tail
     (
         &[[9, 3, 9], [2, 2, 9], [4, 0, 9], [1, 9, 9], [3, 9, 9]],
         Err(&[3, 1, 2, 4]),

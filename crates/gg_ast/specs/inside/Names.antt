@@ -1,4 +1,4 @@
--- More on Names: what no promise of the program's speaks of.
+-- More on Names: what no promise of the program reaches.
 use Rattle.std.specs.Prelude.{IfSome}
 use Rattle.std.specs.List.{All}
 use Rattle.gg_ast.specs.declared.expression.Reference.{Reference}
@@ -17,7 +17,7 @@ use Rattle.gg_ast.specs.Term.{Term, NamedTerm, ConstantTerm, UnaryTerm, BinaryTe
 use Rattle.gg_ast.specs.Tree.{ModuleTree, CircuitTree}
 use Rattle.gg_ast.specs.Names.{IsName}
 
--- The following definitions say, of each part of a circuit, that its names are names.
+-- The following definitions state that the names in each part of a circuit are names.
 
 -- each part of a reference, as it is between its dots
 abbrev pub AreNamesOfReference : Reference → Type 0
@@ -48,7 +48,7 @@ AreNamesOfMemoryField (field.ReadLatency n) = Unit {0}
 AreNamesOfMemoryField (field.WriteLatency n) = Unit {0}
 AreNamesOfMemoryField (field.ReadUnderWrite word) = Unit {0}
 
--- the same of a field of a memory, with its line
+-- the names of a field of a memory, with its line
 abbrev pub AreNamesOfField : Field → Type 0
 AreNamesOfField f = AreNamesOfMemoryField f.kind
 
@@ -57,8 +57,8 @@ abbrev pub AreNamesOfArgument : Argument → Type 0
 AreNamesOfArgument (Value e) = AreNamesOfTerm e
 AreNamesOfArgument (Text t) = Unit {0}
 
--- the names of a statement: that which it declares, those in its expressions, the module of an instance, the readers and writers of a
--- memory, and the label of a stop or a report
+-- the names of a statement: its own, the names in its expressions, the module of an instance, the readers and writers of a memory, and the
+-- label of a stop or a report
 abbrev pub AreNamesOfKind : StmtKind → Type 0
 AreNamesOfKind (Wire name ty) = IsName name
 AreNamesOfKind (Node name value) = IsName name × AreNamesOfTerm value
@@ -71,7 +71,7 @@ AreNamesOfKind Skip = Unit {0}
 AreNamesOfKind (Stop clock condition code label) = AreNamesOfTerm clock × AreNamesOfTerm condition × IfSome label IsName
 AreNamesOfKind (Report word arguments label) = All AreNamesOfArgument arguments × IfSome label IsName
 
--- the same of a statement with its line
+-- the names of a statement with its line
 abbrev pub AreNamesOfStatement : Stmt → Type 0
 AreNamesOfStatement s = AreNamesOfKind s.kind
 
@@ -79,7 +79,7 @@ AreNamesOfStatement s = AreNamesOfKind s.kind
 abbrev pub IsPortNamed : Port → Type 0
 IsPortNamed port = IsName port.name
 
--- a module's own name, those of its ports, and all names of its statements
+-- a module's own name, the names of its ports, and all names of its statements
 pub record AreNamesOfModule (m : ModuleTree) : Type 0 where
   pub own : IsName m.name
   pub of_ports : All IsPortNamed m.ports

@@ -1,4 +1,4 @@
--- More on Places: what no promise of the program's speaks of.
+-- More on Places: what no promise of the program reaches.
 use Rattle.std.specs.Prelude.{◌≡◌, ◌≢◌, ℕ, ◌<◌, List, Some, String, slice_get}
 use Rattle.std.specs.HashMap.{HashMap, get_by_text}
 use Rattle.std.specs.declared.alloc.Global.{Global}
@@ -15,6 +15,6 @@ pub record IsFirstOf (names : List (List ℕ)) (name : List ℕ) (i : ℕ) : Typ
 abbrev pub Lacks : List (List ℕ) → List ℕ → Type 0
 Lacks names name = (k : ℕ) → slice_get names k ≢ Some name
 
--- a table from names to places: a look-up by any name gives the place of the first in the list
+-- a table from names to places: a look-up by any name returns the place of the first in the list
 abbrev pub TellsPlaces : List (List ℕ) → HashMap (String Global) ℕ (BuildHasherDefault FoldHasher) → Type 0
 TellsPlaces names places = (q : List ℕ) → get_by_text places q ≡ place_of q names

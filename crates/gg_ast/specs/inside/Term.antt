@@ -1,4 +1,4 @@
--- More on Term: what no promise of the program's speaks of.
+-- More on Term: what no promise of the program reaches.
 use Rattle.std.specs.Prelude.{ℕ, ◌+◌}
 use Rattle.gg_ast.specs.Term.{BinaryTerm, ConstantTerm, FixedTerm, MuxTerm, NamedTerm, Term, UnaryTerm}
 

@@ -1,4 +1,4 @@
--- More on Tree: what no promise of the program's speaks of.
+-- More on Tree: what no promise of the program reaches.
 use Rattle.std.specs.Prelude.{◌≡◌, ℕ, List, [], ◌∷◌, ◌++◌}
 use Rattle.gg_ast.specs.declared.module.Port.{Port}
 use Rattle.gg_ast.specs.declared.statement.Field.{Field}
@@ -25,7 +25,7 @@ on_last f [] = []
 on_last f (m ∷ []) = f m ∷ []
 on_last f (m ∷ (n ∷ ms)) = m ∷ on_last f (n ∷ ms)
 
--- the list has a last element, for which this holds
+-- this holds of the last element of the list, and there is one
 abbrev pub EndsIn : {A : Type 0} → (A → Type 0) → List A → Type 0
 EndsIn P [] = ⊥
 EndsIn P (m ∷ []) = P m
@@ -36,11 +36,11 @@ abbrev pub with_field : Field → StmtKind → StmtKind
 with_field field (Memory name fields) = Memory name (fields ++ field ∷ [])
 with_field field other = other
 
--- a statement whose memory has one more field; a statement of another kind is as it was
+-- the statement with one more field of its memory; a statement of another kind as it was
 abbrev pub statement_with_field : Field → Stmt → Stmt
 statement_with_field field s = record s { kind = with_field field s.kind }
 
--- a module whose last statement has one more field
+-- a module with one more field of its last statement
 abbrev pub module_with_field : Field → ModuleTree → ModuleTree
 module_with_field field m = record m { statements = on_last (statement_with_field field) m.statements }
 
@@ -61,15 +61,15 @@ EndsInMemory m = EndsIn IsMemoryStatement m.statements
 abbrev pub add_module : CircuitTree → ModuleTree → CircuitTree
 add_module circuit m = record circuit { modules = circuit.modules ++ m ∷ [] }
 
--- a circuit whose last module has one more port
+-- a circuit with one more port of its last module
 abbrev pub add_port : CircuitTree → Port → CircuitTree
 add_port circuit port = record circuit { modules = on_last (with_port port) circuit.modules }
 
--- a circuit whose last module has one more statement
+-- a circuit with one more statement of its last module
 abbrev pub add_statement : CircuitTree → Stmt → CircuitTree
 add_statement circuit statement = record circuit { modules = on_last (with_statement statement) circuit.modules }
 
--- a circuit whose last statement has one more field
+-- a circuit with one more field of its last statement
 abbrev pub add_field : CircuitTree → Field → CircuitTree
 add_field circuit field = record circuit { modules = on_last (module_with_field field) circuit.modules }
 

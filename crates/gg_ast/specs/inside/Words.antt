@@ -1,4 +1,4 @@
--- More on Words: what no promise of the program's speaks of.
+-- More on Words: what no promise of the program reaches.
 use Rattle.std.specs.Prelude.{ℕ, List, [], ◌∷◌, Option, None, Some, codes, option_map, if◌then◌else◌}
 use Rattle.std.specs.Option.{option_or}
 use Rattle.std.specs.Str.{bytes_eq}
@@ -32,13 +32,13 @@ operation_of word =
     (option_or (option_map Binary (named2 word))
     (option_or (option_map Fixed (named_const word)) (if bytes_eq word (codes "mux") then Some Mux else None)))
 
--- the first words of lines that are not connections
+-- the first words of some lines that are not connections
 abbrev pub head_words : List (List ℕ × Keyword)
 head_words =
     (codes "FIRRTL", keyword.Version) ∷ ((codes "circuit", keyword.Circuit) ∷ ((codes "module", keyword.Module) ∷ ((codes "input", keyword.Port direction.Input)
     ∷ ((codes "output", keyword.Port direction.Output) ∷ ((codes "wire", keyword.Wire) ∷ ((codes "node", keyword.Node) ∷ ((codes "reg", keyword.Register) ∷ [])))))))
 
--- the others of these words
+-- the first words of other lines that are not connections
 abbrev pub tail_words : List (List ℕ × Keyword)
 tail_words =
     (codes "reset", keyword.Reset) ∷ ((codes "inst", keyword.Instance) ∷ ((codes "mem", keyword.Memory) ∷ ((codes "skip", keyword.Skip) ∷ ((codes "stop", keyword.Stop)

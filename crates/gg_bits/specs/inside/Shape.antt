@@ -1,4 +1,4 @@
--- More on Shape: what no promise of the program's speaks of.
+-- More on Shape: what no promise of the program reaches.
 -- Source: FIRRTL Specification, "Ground Types".
 use Rattle.std.specs.Prelude.{Result, Ok, Err}
 use Rattle.gg_bits.specs.declared.types.Ty.{Ty}

@@ -1,4 +1,4 @@
--- More on All: what no promise of the program's speaks of.
+-- More on All: what no promise of the program reaches.
 -- Source: ICCAD 2019 (bridges: models in the host's own code that stand at a target's ports).
 use Rattle.std.specs.Prelude.{◌≡◌, ◌≢◌, ℕ, ◌<◌, List, [], ◌∷◌, ◌++◌, length, flat_map, slice_index_or, AllPairs, ⊤}
 use Rattle.std.specs.List.{range_with_len}
@@ -19,16 +19,16 @@ pub record Attached : Type 0 where
   pub sees : List ℕ
   pub drives : List ℕ
 
--- the circuit with one bridge's model in it
+-- the circuit with the model of one bridge
 abbrev pub with_bridge : FlatCircuit → Attached → FlatCircuit
 with_bridge one bridge = joined one bridge.front bridge.model bridge.sees bridge.drives
 
--- the circuit with all of them
+-- the circuit with the models of these bridges
 abbrev pub joined_all : FlatCircuit → List Attached → FlatCircuit
 joined_all one [] = one
 joined_all one (bridge ∷ bridges) = joined_all (with_bridge one bridge) bridges
 
--- the state of a circuit with the models of these bridges, each of which has zeros
+-- the state of a circuit with the models of these bridges, each with zeros
 abbrev pub joined_states : State → List Attached → State
 joined_states state [] = state
 joined_states state (bridge ∷ bridges) = joined_states (joined_state state (opening bridge.model)) bridges
@@ -38,21 +38,21 @@ pub record CanAttach (one : FlatCircuit) (bridge : Attached) : Type 0 where
   pub can : CanJoin one bridge.front bridge.model bridge.sees bridge.drives
   pub model : IsModel bridge.model
 
--- each can be at the ports of the circuit with those before it
+-- each bridge can be at the ports of the circuit with the bridges before it
 abbrev pub CanAttachAll : FlatCircuit → List Attached → Type 0
 CanAttachAll one [] = ⊤
 CanAttachAll one (bridge ∷ bridges) = CanAttach one bridge × CanAttachAll (with_bridge one bridge) bridges
 
--- Each can be at the circuit's own ports, they drive different inputs, and their paths differ.
+-- Each bridge can be at the circuit's own ports, they drive different inputs, and their paths differ.
 pub record CanAttachEach (one : FlatCircuit) (bridges : List Attached) : Type 0 where
   pub each : (k : ℕ) (any : Attached) → k < length bridges → CanAttach one (slice_index_or bridges k any)
   pub once : AllPairs (λ a b. a ≢ b) (flat_map (λ bridge. bridge.drives) bridges)
   -- no path of one model is one of another
   pub apart : (j k : ℕ) (any : Attached) → j < k → k < length bridges → (a b : List ℕ) → (slice_index_or bridges j any).front ++ a ≢ (slice_index_or bridges k any).front ++ b
 
--- ---- runs from a start; row 0 is that of the start's cycle
+-- ---- runs from a start; row 0 is the row of the start's cycle
 
--- in n cycles from this one on the inputs are the values of these signals, in order
+-- in n cycles, starting at this one, the inputs are the values of these signals, in order
 abbrev pub HasInputs : (rows inputs : List (List ℕ)) (cycle n : ℕ) (signals : List ℕ) → Type 0
 HasInputs rows inputs cycle n signals = (t place : ℕ) → t < n → place < length signals → value_at (inputs_at inputs (later cycle t)) place ≡ value_at (row_at rows t) (value_at signals place)
 
@@ -62,7 +62,7 @@ pub record RunsModelFrom (cycle n : ℕ) (rows : List (List ℕ)) (globals : Lis
   pub run : (inputs : List (List ℕ)) → HasInputs rows inputs cycle n bridge.sees → IsRunFrom bridge.model (record { cycle = cycle; state = opening bridge.model; ratios = [] }) inputs n (part_rows globals rows)
   pub driven : (i : ℕ) → i < length bridge.drives → column rows (value_at bridge.drives i) ≡ column (part_rows globals rows) (value_at bridge.model.outs i)
 
--- each model runs so, in the circuit with the bridges before it, where its signals stand behind all others
+-- each model runs as in `RunsModelFrom`, in the circuit with the bridges before it; its signals come after all others
 abbrev pub RunsModelsFrom : (cycle n : ℕ) → List (List ℕ) → FlatCircuit → List Attached → Type 0
 RunsModelsFrom cycle n rows one [] = ⊤
 RunsModelsFrom cycle n rows one (bridge ∷ bridges) = RunsModelFrom cycle n rows (globals_behind one bridge.model) bridge × RunsModelsFrom cycle n rows (with_bridge one bridge) bridges

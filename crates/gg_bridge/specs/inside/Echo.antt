@@ -7,7 +7,7 @@ use Rattle.gg_flat.specs.Circuit.{FlatCircuit}
 use Rattle.gg_flat.specs.State.{State}
 use Rattle.gg_bridge.specs.Joined.{copy_line}
 
--- its in-signal, its out-signal, which is a register, and that register, which takes the in-signal in each tick
+-- an in-signal, and an out-signal that is a register, which takes the in-signal in each tick
 abbrev pub echo_piece : Ty → FlatCircuit
 echo_piece ty =
     record {
@@ -24,12 +24,12 @@ echo_piece ty =
 abbrev pub echo_state : ℕ → State
 echo_state last = record { registers = last ∷ []; banks = [] }
 
--- what a contract sees of an echo: the type of its values, and the last that it saw
+-- what a contract sees of an echo: the type of its values, and the last value that it saw
 pub record Echoing : Type 0 where
   pub ty : Ty
   pub last : ℕ
 
--- The piece is an echo of values of this type, and the last that it saw is one of them.
+-- The piece is an echo of values of this type, and the last value that it saw is one of them.
 pub record IsEcho (ty : Ty) (piece : FlatCircuit) (last : ℕ) : Type 0 where
   pub is : piece ≡ echo_piece ty
   pub fits : last < 2 ^ ty.width

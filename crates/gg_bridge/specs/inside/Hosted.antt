@@ -1,4 +1,4 @@
--- More on Hosted: what no promise of the program's speaks of.
+-- More on Hosted: what no promise of the program reaches.
 -- Source: MEMOCODE 2009 (a node with a latch for each input and a flag for each output); ICCAD 2019 (bridges: models in the host's
 -- own code, beside the units of a target).
 use Rattle.std.specs.Prelude.{◌≡◌, ◌<◌, ℕ, List, Option, Some, Bool, All, length}

@@ -1,4 +1,4 @@
--- More on Joined: what no promise of the program's speaks of.
+-- More on Joined: what no promise of the program reaches.
 -- Source: ICCAD 2019 (bridges: models in the host's own code that stand at a target's ports); FIRRTL Specification, "Connects".
 use Rattle.std.specs.Prelude.{◌≡◌, ◌≢◌, ℕ, ◌<◌, List, ◌++◌, Bool, nat_lt, ◌&&◌, Option, None, is_none, slice_index_or, length, map, Contains, AllPairs}
 use Rattle.gg_bits.specs.declared.types.Ty.{Ty}
@@ -25,9 +25,9 @@ pub record HasPlaces (list : List ℕ) (count : ℕ) (places : List (Option ℕ)
   pub many : length places ≡ count
   pub each : (s : ℕ) → s < count → place_at places s ≡ place_among list s
 
--- ---- the numbers of what stands behind
+-- ---- the numbers of the model's parts, after the circuit's
 
--- the numbers that all of a model gets behind a circuit
+-- the numbers of all parts of a model, after a circuit's
 abbrev pub numbers_behind : (one model : FlatCircuit) → Renaming
 numbers_behind one model = behind_by (globals_behind one model) (held_behind one model) (memories_behind one model)
 
@@ -43,8 +43,8 @@ linked_driver outs left s ty driver place = linked_at outs (place_among left s) 
 abbrev pub placed : List ℕ → FlatCircuit → FlatCircuit
 placed front model = record model { paths = map (λ path. front ++ path) model.paths }
 
--- The bridge's ports are the circuit's and fit the model: as many, with the model's types, and what it drives are inputs, each once.
--- No path of the circuit is one of the model's.
+-- The bridge's ports are signals of the circuit and fit the model: there are equally many, with the model's types. What it drives are inputs, each
+-- once. No path of the circuit is one of the model's.
 pub record CanJoin (one : FlatCircuit) (front : List ℕ) (model : FlatCircuit) (sees drives : List ℕ) : Type 0 where
   pub seen_count : length sees ≡ length model.ins
   pub seen : (i : ℕ) → i < length sees → value_at sees i < length one.signals

@@ -17,7 +17,7 @@ use Rattle.gg_bridge.specs.Model.{IsModel}
 abbrev pub TheCircuitIsPart : Type 0
 TheCircuitIsPart =
     (one : FlatCircuit) (front : List ℕ) (model : FlatCircuit) (sees drives : List ℕ)
-    -- The model can stand at the circuit's ports.
+    -- The model can be at the circuit's ports.
     → CanJoin one front model sees drives → IsWellFormed one
     -- The circuit's signals, registers, memories and clocks keep their numbers.
     → IsPart (joined one front model sees drives) one (range_with_len 0 (length one.signals)) (range_with_len 0 (length one.registers)) (range_with_len 0 (length one.memories)) (clocks_from 0 one.clocks)
@@ -28,25 +28,25 @@ TheModelIsPart =
     (one : FlatCircuit) (front : List ℕ) (model : FlatCircuit) (sees drives : List ℕ)
     -- Each signal of the circuit has a path.
     → length one.paths ≡ length one.signals → IsModel model
-    -- The model's signals, registers and memories stand behind those of the circuit. It has no clock of its own.
+    -- The model's signals, registers and memories come after the circuit's. It has no clock of its own.
     → IsPart (joined one front model sees drives) (placed front model) (globals_behind one model) (held_behind one model) (memories_behind one model) []
 
 -- The circuit with a model is well formed.
 abbrev pub JoinedIsFormed : Type 0
 JoinedIsFormed =
     (one : FlatCircuit) (front : List ℕ) (model : FlatCircuit) (sees drives : List ℕ)
-    -- The model can stand at the circuit's ports, and the circuit is well formed, as a model is.
+    -- The model can be at the circuit's ports, and the circuit is well formed, as a model is.
     → CanJoin one front model sees drives → IsWellFormed one → IsModel model
-    -- So are both together.
+    -- Then the circuit with the model is well formed.
     → IsWellFormed (joined one front model sees drives)
 
 -- The circuit with a model has an order of evaluation, if the circuit has one.
 abbrev pub JoinedIsOrdered : Type 0
 JoinedIsOrdered =
     (one : FlatCircuit) (front : List ℕ) (model : FlatCircuit) (sees drives order : List ℕ)
-    -- The model can stand at the circuit's ports, and the circuit has an order, as a model has.
+    -- The model can be at the circuit's ports, and the circuit has an order, as a model has.
     → CanJoin one front model sees drives → IsWellFormed one → IsOrder one order → IsModel model
-    -- So have both together.
+    -- Then the circuit with the model has an order.
     → HasOrder (joined one front model sees drives)
 
 -- A state of the circuit and one of the model make a state of the circuit with the model.
@@ -55,5 +55,5 @@ StatesMakeAState =
     (one : FlatCircuit) (front : List ℕ) (model : FlatCircuit) (sees drives : List ℕ) (state begin : State)
     -- These are a state of the circuit and one of the model.
     → IsState one state → IsState model begin
-    -- The model's registers and memories stand behind the circuit's.
+    -- The model's registers and memories come after the circuit's.
     → IsState (joined one front model sees drives) (joined_state state begin)

@@ -1,4 +1,4 @@
--- More on Model: what no promise of the program's speaks of.
+-- More on Model: what no promise of the program reaches.
 -- Source: ICCAD 2019 (bridges: models in the host's own code that stand at a target's ports); MEMOCODE 2009 (a node whose
 -- outputs need no input).
 use Rattle.std.specs.Prelude.{◌≡◌, ℕ, List, [], length, map}

@@ -1,4 +1,4 @@
--- More on Ports: what no promise of the program's speaks of.
+-- More on Ports: what no promise of the program reaches.
 -- Source: FIRRTL Specification, "Modules" (a port is known by its name); the paths of pipes and of models are this program's own.
 use Rattle.std.specs.Prelude.{◌≡◌, ℕ, List, true, nat_lt, if◌then◌else◌, Option, Some, None, All}
 use Rattle.std.specs.List.{list_any}
@@ -26,14 +26,14 @@ abbrev pub picked : List ℕ → Option ℕ → ℕ
 picked list None = 0
 picked list (Some place) = value_at list place
 
--- ---- where a bridge can stand
+-- ---- where a bridge can be
 
--- one of these signals is called so
+-- one of these signals is the port with this name
 abbrev pub IsAmong : FlatCircuit → List ℕ → List ℕ → Type 0
 IsAmong circuit signals name = list_any (is_called circuit name) signals ≡ true
 
--- A bridge of this name can stand at the ports with these names: they are outputs and inputs of the circuit, and the circuit can be
--- joined with the model there.
+-- A bridge of this name can be at the ports with these names: they are outputs and inputs of the circuit, and the circuit can be joined with the
+-- model there.
 pub record CanStand (circuit : FlatCircuit) (name : List ℕ) (model : FlatCircuit) (sees drives : List (List ℕ)) : Type 0 where
   pub outputs : All (IsAmong circuit circuit.outs) sees
   pub inputs : All (IsAmong circuit circuit.ins) drives

@@ -13,7 +13,7 @@ use Rattle.gg_cut_plan.specs.declared.plan.Channel.{Channel}
 use Rattle.gg_node.specs.Machine.{no_state}
 use Rattle.gg_build.specs.declared.begin.Begin.{Begin}
 
--- the state in which a part begins: its part of a state of the circuit, or zeros
+-- the state that a part begins with: its part of a state of the circuit, or zeros
 abbrev pub state_from : Part → Option State → State
 state_from part None = opening part.piece
 state_from part (Some state) = part_state part.held part.memories state

@@ -1,5 +1,5 @@
 -- The bridges that are handed in, by their names, while the machines of a plan take them.
--- Source: ICCAD 2019 (bridges: models in the host's own code, beside the units of a target).
+-- Source: ICCAD 2019 (bridges: models in the host's own code, next to the units of a target).
 use Rattle.std.specs.Prelude.{◌≡◌, ◌≢◌, ℕ, nat_eq, List, Option, Some, Contains, ⊤}
 use Rattle.std.specs.Cmp.Lexicographic.{pointwise}
 use Rattle.std.specs.HashMap.{HashMap, get}
@@ -30,7 +30,7 @@ pub record IsTold {B : Type 0} (piece : B → FlatCircuit) (state : B → State)
   pub model : piece bridge ≡ body.model
   pub opens : state bridge ≡ opening body.model
 
--- The table has the bridge of a machine, if the machine is that of a bridge.
+-- The table has the machine's bridge, if it is the machine of a bridge.
 abbrev pub HasOwn : {B : Type 0} → (B → FlatCircuit) → (B → State) → Table B → Body → Type 0
 HasOwn piece state table (Cut part) = ⊤
 HasOwn piece state table (Memory part) = ⊤
@@ -38,7 +38,7 @@ HasOwn piece state table (Source place) = ⊤
 HasOwn piece state table Tray = ⊤
 HasOwn piece state table (Bridge body) = IsTold piece state table body
 
--- This machine isn't that of the bridge with this name.
+-- This isn't the machine of the bridge with this name.
 abbrev pub IsOther : Body → List ℕ → Type 0
 IsOther (Cut part) name = ⊤
 IsOther (Memory part) name = ⊤
@@ -46,11 +46,11 @@ IsOther (Source place) name = ⊤
 IsOther Tray name = ⊤
 IsOther (Bridge body) name = body.name ≢ name
 
--- All bridges but that of a machine stay in the table.
+-- All bridges except this machine's stay in the table.
 abbrev pub KeepsOthers : {B : Type 0} → Body → Table B → Table B → Type 0
 KeepsOthers body old new = (name : List ℕ) → IsOther body name → bridge_named new name ≡ bridge_named old name
 
--- The table still has for a machine the bridge that it had, if the machine is that of a bridge.
+-- If this is the machine of a bridge, both tables have the same bridge for it.
 abbrev pub HasSame : {B : Type 0} → Table B → Table B → Body → Type 0
 HasSame old new (Cut part) = ⊤
 HasSame old new (Memory part) = ⊤
@@ -58,6 +58,6 @@ HasSame old new (Source place) = ⊤
 HasSame old new Tray = ⊤
 HasSame old new (Bridge body) = bridge_named new body.name ≡ bridge_named old body.name
 
--- Two machines aren't those of bridges with one name.
+-- These aren't the machines of two bridges with one name.
 abbrev pub AreApart : Body → Body → Type 0
 AreApart one other = (body : BridgeBody) → other ≡ Bridge body → IsOther one body.name

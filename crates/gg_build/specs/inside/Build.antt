@@ -1,5 +1,5 @@
--- More on Build: what no promise of the program's speaks of.
--- Source: MEMOCODE 2009 (a synchronous circuit as a network of its parts, whose streams are the circuit's own); ICCAD
+-- More on Build: definitions that no promise of the program reaches.
+-- Source: MEMOCODE 2009 (a synchronous circuit as a network of its parts, with the circuit's own streams); ICCAD
 -- 2019 (units and memories of a target as models of their own).
 use Rattle.std.specs.Prelude.{◌≡◌, ◌≢◌, ℕ, ◌<◌, List, AllPairs, Contains, length, map, unwrap_or}
 use Rattle.gg_flat.specs.Circuit.{FlatCircuit}
@@ -22,8 +22,8 @@ use Rattle.gg_build.specs.declared.begin.Begin.{Begin}
 use Rattle.gg_build.specs.inside.Begin.{AreTokens}
 use Rattle.gg_build.specs.Build.{IsOpeningFrom, IsToRunFrom, run_token}
 
--- The plan is that of a design whose circuit keeps to its tree, and of a request without a fault for it and for these models. Its channels
--- may hold at least one token each.
+-- The plan of a design and of a request without a fault for it and for these models. The design's circuit keeps to its tree. The plan's channels may
+-- hold at least one token each.
 pub record IsFaultless (plan : Plan) : Type 0 where
   pub design : Ordered
   pub request : Request
@@ -45,15 +45,15 @@ pub record IsToRun (plan : Plan) (columns : List (List ℕ)) (n : ℕ) (flow : F
   pub run : IsToRunFrom plan start columns n flow
   pub zeros : FromZeros run
 
--- `begin` tells this start: its cycle, its state of the reference circuit, which is zeros if `begin` has none, and the token of each channel
--- that has a pipe. The start's ratios are the plan's.
+-- `begin` describes this start: its cycle, its state of the reference circuit, where no state means zeros, and the token of each channel that has a
+-- pipe. The start's ratios are the plan's.
 pub record Begins (design : Ordered) (request : Request) (plan : Plan) (start : Start) (begin : Begin) : Type 0 where
   pub cycle : begin.cycle ≡ start.cycle
   pub state : start.state ≡ unwrap_or begin.state (opening (plan_reference design request))
   pub tokens : AreTokens plan.channels (plan_token design request start.state) begin.tokens.items
   pub ratios : plan.ratios ≡ start.ratios
 
--- The plan's network can be run from where `begin` tells to begin.
+-- The plan's network can be run from the start that `begin` describes.
 pub record IsToBegin (plan : Plan) (begin : Begin) (columns : List (List ℕ)) (n : ℕ) (flow : Flow) : Type 0 where
   pub start : Start
   pub run : IsToRunFrom plan start columns n flow
@@ -61,7 +61,7 @@ pub record IsToBegin (plan : Plan) (begin : Begin) (columns : List (List ℕ)) (
 
 -- ---- the network before its first step
 
--- A network is that of the plan before its first cycle, with zeros, for whatever run from there.
+-- The network is the plan's before its first cycle, with zeros, for each run that begins there.
 abbrev pub BeginsWithZeros : Plan → (columns : List (List ℕ)) → (n : ℕ) → Flow → Network → Type 0
 BeginsWithZeros plan columns n flow net =
     (start : Start) (run : IsToRunFrom plan start columns n flow)
@@ -70,12 +70,11 @@ BeginsWithZeros plan columns n flow net =
     -- The machines begin with their parts of the start, and each pipe has the token that the start's state gives its register.
     → IsOpeningFrom plan start (run_token run) columns n net
 
--- A network is that of the plan before its first step from where `begin` tells to begin, with n cycles to do in all, for whatever run
--- from there.
+-- The network is the plan's before its first step from the start that `begin` describes, with n cycles to do in all, for each run that begins there.
 abbrev pub BeginsThere : Plan → Begin → (columns : List (List ℕ)) → (n : ℕ) → Flow → Network → Type 0
 BeginsThere plan begin columns n flow net =
     (start : Start) (run : IsToRunFrom plan start columns n flow)
-    -- `begin` tells this start, with the tokens for the design and the request of the run.
+    -- `begin` describes this start, with the tokens for the design and the request of the run.
     → Begins run.design run.request plan start begin
     -- The machines begin with their parts of the start, and each pipe has the token that the start's state gives its register.
     → IsOpeningFrom plan start (run_token run) columns n net
@@ -89,11 +88,11 @@ pub record HasBridge {B : Type 0} (piece : B → FlatCircuit) (state : B → Sta
   pub model : piece bridge ≡ body.model
   pub opens : state bridge ≡ opening body.model
 
--- The bridges have different names, and among them is each one of the plan, with its model and with zeros.
+-- The bridges have different names. Each bridge of the plan is among them, with its model and with zeros.
 pub record HasBridges {B : Type 0} (piece : B → FlatCircuit) (state : B → State) (plan : Plan) (bridges : List (List ℕ × B)) : Type 0 where
   pub names : AllPairs (λ a b. a ≢ b) (map (λ pair. pair.0) bridges)
   pub each : (m : ℕ) (body : BridgeBody) → m < length plan.machines → (machine_in plan m).body ≡ Bridge body → HasBridge piece state bridges body
 
--- No machine of the plan is that of a bridge.
+-- The plan has no machine of a bridge.
 abbrev pub NeedsNone : Plan → Type 0
 NeedsNone plan = (m : ℕ) (body : BridgeBody) → m < length plan.machines → (machine_in plan m).body ≢ Bridge body

@@ -1,5 +1,5 @@
--- More on Built: what no promise of the program's speaks of.
--- Source: MEMOCODE 2009 (a synchronous circuit as a network of its parts, whose streams are the circuit's own); ICCAD
+-- More on Built: definitions that no promise of the program reaches.
+-- Source: MEMOCODE 2009 (a synchronous circuit as a network of its parts, with the circuit's own streams); ICCAD
 -- 2019 (units and memories of a target as models of their own, with sources for its inputs and sinks for its outputs).
 use Rattle.std.specs.Prelude.{◌≡◌, ℕ, ◌^◌, ◌<◌, List, [], length}
 use Rattle.gg_flat.specs.Clock.{Ratio}
@@ -27,7 +27,7 @@ pub record IsListedAt (token : ℕ → ℕ) (plan : Plan) (m : ℕ) (kind : Kind
 
 -- ---- zeros
 
--- the tokens with which all begins at cycle 0
+-- the tokens that pipes open with at cycle 0
 abbrev pub no_token : ℕ → ℕ
 no_token s = 0
 

@@ -1,4 +1,4 @@
--- More on CutLayout: what no promise of the program's speaks of.
+-- More on CutLayout: definitions that no promise of the program reaches.
 -- Sources: MEMOCODE 2009 for channels, their bounds and what an output of a machine depends on; ICCAD 2019 for memories
 -- of a target that are served port by port.
 use Rattle.std.specs.Prelude.{◌≡◌, ℕ, ◌-◌}

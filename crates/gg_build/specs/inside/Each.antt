@@ -1,4 +1,4 @@
--- More on Each: what no promise of the program's speaks of.
+-- More on Each: definitions that no promise of the program reaches.
 -- Source: this program's own.
 use Rattle.std.specs.Prelude.{◌≡◌, ◌↔◌, ℕ, ◌<◌, List, length}
 use Rattle.gg_flat.specs.Run.{Start}
@@ -19,31 +19,31 @@ use Rattle.gg_build.specs.plan.Each.{OfEachPlan}
 
 -- ---- machines
 
--- what holds of the part of each unit of such a plan
+-- a fact about the part of each unit of such a plan
 abbrev pub OfEachUnit : (Part → Type 0) → Type 0
 OfEachUnit Holds =
     OfEachPlan (λ design request models default plan columns n start rows. (m : ℕ) (part : Part) → m < length plan.machines
     → (machine_in plan m).body ≡ Cut part → Holds part)
 
--- what holds of the part of each listed memory of such a plan
+-- a fact about the part of each listed memory of such a plan
 abbrev pub OfEachMemory : (Part → Type 0) → Type 0
 OfEachMemory Holds =
     OfEachPlan (λ design request models default plan columns n start rows. (m : ℕ) (part : Part) → m < length plan.machines
     → (machine_in plan m).body ≡ Memory part → Holds part)
 
--- what holds of each source of such a plan: of the columns, of its place among them, and of the channels that it gives
+-- a fact about each source of such a plan: about the columns, its place among them, and the channels that it gives
 abbrev pub OfEachSource : (List (List ℕ) → (place : ℕ) → (channels : List ℕ) → Type 0) → Type 0
 OfEachSource Holds =
     OfEachPlan (λ design request models default plan columns n start rows. (m place : ℕ) → m < length plan.machines
     → (machine_in plan m).body ≡ Source place → Holds columns place (machine_in plan m).outs)
 
--- what holds of each bridge of such a plan, with the request and the models
+-- a fact about each bridge of such a plan, with the request and the models
 abbrev pub OfEachBridge : (Request → Models → BridgeBody → Type 0) → Type 0
 OfEachBridge Holds =
     OfEachPlan (λ design request models default plan columns n start rows. (m : ℕ) (bridge : BridgeBody) → m < length plan.machines
     → (machine_in plan m).body ≡ Bridge bridge → Holds request models bridge)
 
--- what holds of each two machines of such a plan that are bridges
+-- a fact about each two machines of such a plan that are bridges
 abbrev pub OfEachTwoBridges : ((m k : ℕ) → (one other : BridgeBody) → Type 0) → Type 0
 OfEachTwoBridges Holds =
     OfEachPlan (λ design request models default plan columns n start rows. (m k : ℕ) (one other : BridgeBody)
@@ -52,14 +52,14 @@ OfEachTwoBridges Holds =
 
 -- ---- networks
 
--- what holds of the network of each such plan, wherever its machines begin and whatever token a pipe opens with: of the
--- plan, the tokens of the signals' pipes, and the frame
+-- a fact about the network of each such plan, wherever its machines begin and whatever token a pipe opens with: about
+-- the plan, the tokens of the signals' pipes, and the frame
 abbrev pub OfEachNetwork : (Plan → (token : ℕ → ℕ) → Frame → Type 0) → Type 0
 OfEachNetwork Holds =
     OfEachPlan (λ design request models default plan columns n start rows. (token : ℕ → ℕ) (starts : Body → Start)
     (machines : List Machine) → AreBuilt plan starts columns machines → Holds plan token (plan_frame token plan machines n))
 
--- the same of the design and the request of which it is the plan, the default capacity, and the frame
+-- a fact about each such network: about the plan's design and request, the default capacity, and the frame
 abbrev pub OfEachCut : (Ordered → Request → (default : ℕ) → Frame → Type 0) → Type 0
 OfEachCut Holds =
     OfEachPlan (λ design request models default plan columns n start rows. (token : ℕ → ℕ) (starts : Body → Start)
@@ -67,7 +67,7 @@ OfEachCut Holds =
 
 -- ---- zeros
 
--- the machines of a plan that begin with the start of the request are those that begin at cycle 0, with zeros
+-- the machines of a plan that begin with the request's start are the machines that begin at cycle 0, with zeros
 abbrev pub ZerosAreTheStart : Ordered → Request → Plan → Type 0
 ZerosAreTheStart design request plan =
     (columns : List (List ℕ)) (machines : List Machine)

@@ -36,8 +36,8 @@ pub record HasEarlier (host_at : ℕ → ℕ) (h m : ℕ) : Type 0 where
   pub earlier : machine < m
   pub host : host_at machine ≡ h
 
--- The hosts of the first `count` machines are numbered in the order of their first machines: a host with a smaller number than that of a
--- machine has an earlier machine.
+-- The hosts of the first `count` machines are numbered in the order of their first machines: each host with a smaller number than a machine's host
+-- has an earlier machine.
 abbrev pub FirstsAscend : (ℕ → ℕ) → ℕ → Type 0
 FirstsAscend host_at count = (m h : ℕ) → m < count → h < host_at m → HasEarlier host_at h m
 

@@ -30,7 +30,7 @@ use Rattle.gg_build.specs.inside.Bridges.{Table, AreApart, HasOwn, bridge_named}
 use Rattle.gg_build.specs.inside.Groups.{FirstsAscend, group_at}
 use Rattle.gg_build.specs.inside.Node.{machines_of}
 
--- ---- what machines of a plan must have to be built
+-- ---- machines of a plan that can be built
 
 -- The part of a unit is well formed, and its signals are in an order of evaluation. Numbers of 32 bits suffice for its outs.
 pub record IsUnitPart (part : Part) : Type 0 where
@@ -66,7 +66,7 @@ CanBegin starts (Source place) = ⊤
 CanBegin starts Tray = ⊤
 CanBegin starts (Bridge bridge) = ⊤
 
--- what machine m of these is
+-- the body of machine m of these
 abbrev pub body_at : List planned.Machine → ℕ → Body
 body_at machines m = (slice_index_or machines m nameless).body
 
@@ -97,11 +97,11 @@ pub record IsGroup (starts : Body → Start) (columns : List (List ℕ)) (machin
 
 -- ---- bridges
 
--- what the first machine of a host is
+-- the body of the first machine of a host
 abbrev pub first_body : List planned.Machine → List (List ℕ) → ℕ → Body
 first_body machines members h = body_at machines (value_at (group_at members h) 0)
 
--- The table has the bridges of all hosts from this one on.
+-- The table has the bridges of host `first` and of all hosts after it.
 abbrev pub HaveBridges : {B : Type 0} → (B → FlatCircuit) → (B → State) → Table B → List planned.Machine → List (List ℕ) → ℕ → Type 0
 HaveBridges piece state table machines members first = (h : ℕ) → first ≤ h → h < length members → HasOwn piece state table (first_body machines members h)
 
@@ -115,7 +115,7 @@ HaveNames machines = (m k : ℕ) → m < length machines → k < length machines
 
 -- ---- hosts
 
--- The machine for a machine of the plan that gives this many channels. `starts` tells where a machine begins.
+-- The network's machine for a machine of the plan that gives this many channels. `starts` says where each machine begins.
 abbrev pub IsBuiltWith : (Body → Start) → List (List ℕ) → ℕ → Body → Machine → Type 0
 IsBuiltWith starts columns outs body machine = IsBuilt columns outs (starts body) body machine
 
@@ -158,7 +158,7 @@ pub record AreHosts {B : Type 0} (starts : Body → Start) (columns : List (List
 
 -- ---- which host a machine has
 
--- the kinds of hosts of what is no bridge: of units, of a memory that is served, of a source, of a tray; and of a bridge
+-- the kinds of hosts: of units, of a memory that is served, of a source, of a tray, of a bridge
 pub data HostKind : Type 0 where
   OfUnits : HostKind
   OfMemory : HostKind
@@ -183,7 +183,7 @@ IsHostOfBridge Is (node.Source machine) = ⊥
 IsHostOfBridge Is (node.Tray machine) = ⊥
 IsHostOfBridge Is (node.Bridge host) = Is host.bridge
 
--- The node is the host that a machine of a plan asks for. That of a bridge is the host of the bridge with its name. `Has` says which bridges have
+-- The node is the host that a machine of a plan needs. A bridge's machine needs the host of the bridge with its name. `Has` says which bridges have
 -- which names.
 abbrev pub IsOwnHost : {B : Type 0} → (Has : List ℕ → B → Type 0) → Body → Node B → Type 0
 IsOwnHost Has (Cut part) node = kind_of node ≡ OfUnits
@@ -192,11 +192,11 @@ IsOwnHost Has (Source place) node = kind_of node ≡ OfSource
 IsOwnHost Has Tray node = kind_of node ≡ OfTray
 IsOwnHost Has (Bridge body) node = IsHostOfBridge (Has body.name) node
 
--- the same of the hosts of these groups of machines, where the bridges are in a table
+-- each of these groups of machines has the host that it needs, if its bridge is in a table
 abbrev pub AreOwnHosts : {B : Type 0} → Table B → List planned.Machine → List (List ℕ) → ℕ → List (Node B) → Type 0
 AreOwnHosts {B} table machines members count nodes = (h : ℕ) (any : Node B) → h < count → IsOwnHost (λ name bridge. bridge_named table name ≡ Some bridge) (first_body machines members h) (slice_index_or nodes h any)
 
--- Each machine of the plan is at the host that it asks for: a bridge's at the host of the bridge that is handed in with its name.
+-- Each machine of the plan is at the host that it needs: a bridge's machine at the host of the bridge that is handed in with its name.
 abbrev pub HaveOwnHosts : {B : Type 0} → Plan → List (List ℕ × B) → List (Node B) → List Station → Type 0
 HaveOwnHosts {B} plan bridges nodes stations = (m : ℕ) (other : Station) (any : Node B) → m < length plan.machines
     → IsOwnHost (λ name bridge. Contains bridges (name, bridge)) (machine_in plan m).body (slice_index_or nodes (slice_index_or stations m other).host any)
@@ -228,7 +228,7 @@ IsUnitBody starts (Bridge bridge) machine = ⊥
 abbrev pub ratios_for : (Body → Start) → List planned.Machine → List ℕ → List (List Ratio)
 ratios_for starts machines group = map (λ m. (starts (body_at machines m)).ratios) group
 
--- for each of these machines the state in which it begins
+-- for each of these machines the state that it begins with
 abbrev pub states_for : (Body → Start) → List planned.Machine → List ℕ → List State
 states_for starts machines group = map (λ m. (starts (body_at machines m)).state) group
 
@@ -276,7 +276,7 @@ pub record IsPlaced (starts : Body → Start) (columns : List (List ℕ)) (own :
 pub record IsPlacement {B : Type 0} (plan : Plan) (starts : Body → Start) (columns : List (List ℕ)) (nodes : List (Node B)) (stations : List Station) : Type 0 where
   -- Each machine of the plan has a station.
   pub total : length stations ≡ length plan.machines
-  -- The machine at a station is built from that of the plan, and has its channels.
+  -- The machine at a station is built from the plan's machine, and has its channels.
   pub each : (m : ℕ) (any : Station) → m < length plan.machines → IsPlaced starts columns (machine_in plan m) (map machines_of nodes) (slice_index_or stations m any)
   -- Each station is at a thread of a host that there is, no two are at the same thread, and no thread is without a station.
   pub threads : AreStationed (map machines_of nodes) stations

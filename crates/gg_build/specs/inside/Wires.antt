@@ -12,8 +12,7 @@ pub record IsPlaceAt (channels : List ℕ) (c p : ℕ) : Type 0 where
   pub known : p < length channels
   pub is : value_at channels p ≡ c
 
--- The places of the channels of a list are written: each of them has a place at which it is in the list. The places of
--- other channels stay as they were.
+-- The places of a list's channels are written: for each of them a place that it has in the list. The places of other channels stay as they were.
 pub record IsNoted (channels old new : List ℕ) : Type 0 where
   pub count : length new ≡ length old
   pub placed : (c : ℕ) → Contains channels c → IsPlaceAt channels c (value_at new c)
@@ -36,7 +35,7 @@ pub record AreListed (lists : List (List ℕ)) (count : ℕ) : Type 0 where
   pub known : (m : ℕ) → m < length lists → All (λ c. c < count) (channels_at lists m)
   pub listed : (c : ℕ) → c < count → (m : ℕ) × (m < length lists) × Contains (channels_at lists m) c
 
--- a place for each of `count` channels, at which it is in the list of some machine
+-- for each of `count` channels a place that it has in the list of some machine
 pub record ArePlaces (lists : List (List ℕ)) (count : ℕ) (places : List ℕ) : Type 0 where
   pub total : length places ≡ count
   pub each : (c : ℕ) → c < count → IsPlace lists c (value_at places c)

@@ -28,8 +28,8 @@ use Rattle.gg_net.specs.markings.Marking.{Link, Layout, link_at}
 -- ---- channels
 
 -- The link is channel c of the cut. It has the channel's ends, the capacity that the request gives for the channel's
--- name, else the default, and exactly the channels that the channel needs in the circuit, in their order. It opens
--- with a token exactly if the request asks for a pipe in the channel.
+-- name, otherwise the default, and exactly the channels that the channel needs in the circuit, in their order. It opens
+-- with a token exactly if the request pipes the channel.
 pub record IsChannelLink (design : Ordered) (request : Request) (default : ℕ) (listed : Listed) (wires : List Wire) (c : ℕ) (link : Link) : Type 0 where
   pub producer : link.producer ≡ (wire_at wires c).producer
   pub consumer : link.consumer ≡ (wire_at wires c).consumer
@@ -43,11 +43,11 @@ pub record IsChannelLink (design : Ordered) (request : Request) (default : ℕ) 
 abbrev pub channel_of : List Wire → ℕ → ℕ
 channel_of wires s = unwrap_or (first_place (λ w. w.signal == s) wires) 0
 
--- the turn of a port whose fields are signals of the circuit: the port's number, and the channels of its fields
+-- the turn of a port with signals of the circuit as its fields: the port's number, and the channels of its fields
 abbrev pub turn_of : List Wire → Port → Turn
 turn_of wires port = record { number = port.number; fields = map (channel_of wires) (fields_of port.access) }
 
--- the turns of memory k of the circuit: its ports in the order in which they are served
+-- the turns of memory k of the circuit: its ports in the order of serving
 abbrev pub memory_turns : FlatCircuit → List Wire → ℕ → List Turn
 memory_turns circuit wires k = map (turn_of wires) (ports_by (latency_at circuit k) (readers_at circuit k) (writers_at circuit k))
 
@@ -55,11 +55,11 @@ memory_turns circuit wires k = map (turn_of wires) (ports_by (latency_at circuit
 abbrev pub memory_of : InstanceTree → Listed → ℕ → ℕ
 memory_of tree listed m = (memory_at tree (value_at listed.memories (m - first_memory listed))).memory
 
--- the turns of machine m: those of its memory if it is a listed memory, else none
+-- the turns of machine m: its memory's turns if it is a listed memory, otherwise none
 abbrev pub machine_turns : FlatCircuit → InstanceTree → Listed → List Wire → ℕ → List Turn
 machine_turns circuit tree listed wires m = if is_memory listed m then memory_turns circuit wires (memory_of tree listed m) else []
 
--- the number of ports of machine m: that of its memory if it is a listed memory, else 0
+-- the number of ports of machine m: its memory's number if it is a listed memory, otherwise 0
 abbrev pub machine_ports : FlatCircuit → InstanceTree → Listed → ℕ → ℕ
 machine_ports circuit tree listed m = if is_memory listed m then port_count circuit (memory_of tree listed m) else 0
 

@@ -1,4 +1,4 @@
--- What the laws speak of: each plan that is given, each machine of such a plan, and each network that is built of it.
+-- What the laws are about: each plan that is given, each machine of such a plan, and each network that is built of it.
 -- Source: this program's own.
 use Rattle.std.specs.Prelude.{ℕ, List}
 use Rattle.gg_flat.specs.Run.{Start}
@@ -14,7 +14,7 @@ use Rattle.gg_build.specs.plan.Built.{AreBuilt, IsGiven, body_start, flow_of, pl
 
 -- ---- plans
 
--- what holds of each plan that is given with a start and the rows of a run from there
+-- a fact about each plan that is given with a start and the rows of a run from there
 abbrev pub OfEachPlan : (Ordered → Request → Models → ℕ → Plan → List (List ℕ) → ℕ → Start → List (List ℕ) → Type 0) → Type 0
 OfEachPlan Holds =
     (design : Ordered) (request : Request) (models : Models) (default : ℕ) (plan : Plan) (columns : List (List ℕ)) (n : ℕ)
@@ -23,8 +23,8 @@ OfEachPlan Holds =
 
 -- ---- networks
 
--- what holds of the network of each such plan whose machines and pipes begin with the start: of what it has to do, of its
--- machines, and of its frame
+-- a fact about the network of each such plan, with machines and pipes that begin with the start: about its flow, its
+-- machines, and its frame
 abbrev pub OfEachStarted : (Flow → List Machine → Frame → Type 0) → Type 0
 OfEachStarted Holds =
     OfEachPlan (λ design request models default plan columns n start rows. (machines : List Machine)

@@ -1,4 +1,4 @@
-//! Laws: facts about a plan's units, sources and bridges, from which they can be built.
+//! Laws: facts about a plan's units, sources and bridges that suffice to build them.
 ghost use Rattle.std.specs.Prelude.{◌≡◌, ℕ, ◌^◌, ◌<◌, length};
 ghost use Rattle.gg_flat.specs.WellFormed.{IsWellFormed};
 ghost use Rattle.gg_flat.specs.InOrder.{IsInOrder};
@@ -16,7 +16,7 @@ pub fn unit_is_ordered()
     ensures ordered { OfEachUnit (λ part. IsInOrder part.piece) }
 {}
 
-/// A source gives at least one channel, and not so many that 32 bits don't suffice. There is a column at its place.
+/// A source gives at least one channel, and fewer than 2^32. There is a column at its place.
 pub fn source_has_column()
     ensures some { OfEachSource (λ columns place channels. 0 < length channels) }
     ensures few { OfEachSource (λ columns place channels. length channels < 2 ^ 32) }
@@ -25,8 +25,8 @@ pub fn source_has_column()
     circuit_has_ports();
 }
 
-/// A bridge's model is one that a machine can run, and the machine's ins and outs are all in-signals of the model and some of its
-/// out-signals. The bridge has the name and the model of its entry. No two bridges of a plan have one name.
+/// A machine can run a bridge's model, and the machine's ins and outs are all in-signals of the model and some of its out-signals. The bridge has the
+/// name and the model of its entry. No two bridges of a plan have one name.
 pub fn bridge_is_attached()
     ensures model { OfEachBridge (λ request models bridge. IsModel bridge.model) }
     ensures ports { OfEachBridge (λ request models bridge. ArePorts bridge.model bridge.ins bridge.outs) }

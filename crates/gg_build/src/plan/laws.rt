@@ -34,8 +34,8 @@ pub fn plan_is_wired()
     ensures { OfEachNetwork (λ plan token frame. IsWired frame) }
 {}
 
-/// There is no ring among the needs of the network's channels. A channel's rank is the place in the design's order of
-/// evaluation of the signal by which it is given. A channel needs only channels of lower ranks.
+/// There is no ring among the needs of the network's channels. A channel's rank is the place of the signal that gives it, in the design's order of
+/// evaluation. A channel needs only channels of lower ranks.
 pub fn plan_has_no_ring()
     ensures { OfEachNetwork (λ plan token frame. HasNoRing frame) }
 {}
@@ -48,7 +48,7 @@ pub fn ports_are_named()
         → All (λ port. All (λ i. i < (kind_at frame.kinds m).ins) (fields_of port.access)) (kind_at frame.kinds m).ports) }
 {}
 
-/// The machines are before their first step, each with the state in which it begins: its part of the start's.
+/// The machines are before their first step, each in its part of the start's state.
 pub fn machines_are_opening()
     ensures { OfEachStarted (λ flow machines frame. (m : ℕ) → m < length machines
         → IsOpening flow m (machine_at machines m)) }
@@ -62,8 +62,8 @@ pub fn all_begin_with_zeros()
         → wires_of_plan (plan_token design request (plan_start design request).state) plan ≡ wires_of_plan no_token plan }
 {}
 
-/// The columns of the run solve the plan: what each machine gives is its answer to what it takes. Each pipe's token is what its register has
-/// at the start.
+/// The columns of the run solve the plan: each machine gives its answer to what it takes. The token of each pipe is its register's value at the
+/// start.
 pub fn columns_solve()
     ensures { OfEachPlan (λ design request models default plan columns n start rows.
         Solves plan start (plan_token design request start.state) columns n (columns_of plan rows)) }

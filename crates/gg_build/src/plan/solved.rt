@@ -8,10 +8,9 @@ ghost use Rattle.gg_build.specs.plan.Each.{OfEachStarted};
 
 use gg_cut_reference::{circuit_has_ports, circuit_runs};
 
-/// The run of the reference circuit from a start solves the network whose machines and pipes begin there. Each channel's list
-/// is its signal's column, a cycle later and behind the pipe's token if the channel has a pipe. Its producer's rows give the
-/// column, maybe by a signal that it copies, and its consumer's rows take the list. Each machine can do all cycles: its rows
-/// are a run of its piece, from its part of the start.
+/// The run of the reference circuit from a start solves the network, if its machines and pipes begin there. Each channel's list is its signal's
+/// column, a cycle later and after the pipe's token if the channel has a pipe. Its producer's rows give the column, maybe by a signal that it copies,
+/// and its consumer's rows take the list. Each machine can do all cycles: its rows are a run of its piece, from its part of the start.
 pub fn plan_is_solved()
     ensures { OfEachStarted (λ flow machines frame. Solves flow frame) }
 {
@@ -19,7 +18,7 @@ pub fn plan_is_solved()
     circuit_runs();
 }
 
-/// So the frame of the network, which never changes, is sound: it is wired, has no ring, and is solved.
+/// The frame of the network, which never changes, is sound: it is wired, has no ring, and is solved.
 pub fn plan_is_sound()
     ensures { OfEachStarted (λ flow machines frame. IsSound flow frame) }
 {

@@ -32,7 +32,7 @@ IsDraftBody draft m body = IsBody draft.design.now draft.request.now draft.model
 abbrev pub AreDraftMachines : Draft → List Machine → Type 0
 AreDraftMachines draft machines = AreMachines draft.design.now draft.request.now draft.models.now draft.listed (draft_hub draft) machines
 
--- what machine m of a draft does, after these machines before it
+-- what machine m of a draft does, if these are the machines before it
 abbrev pub IsNextBody : Draft → Domains → ℕ → List Machine → Body → Type 0
 IsNextBody draft domains m machines body = IsMadeBody draft.design.now draft.request.now draft.models.now draft.listed (draft_hub draft) domains.units machines m body
 

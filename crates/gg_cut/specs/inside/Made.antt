@@ -1,4 +1,4 @@
--- More on Made: what no promise of the program's speaks of.
+-- More on Made: what no promise of the program reaches.
 -- Source: MEMOCODE 2009 (a network of machines that are latency-insensitive); ICCAD 2019 (instances and memories of a
 -- target as models of their own).
 use Rattle.std.specs.Prelude.{◌≡◌, ◌≢◌, ℕ, ◌<◌, ◌≤◌, ◌^◌, List, [], Bool, length, map, slice_index_or, AllPairs}
@@ -47,7 +47,7 @@ IsTimedBody clocking (Bridge bridge) = Unit {0}
 abbrev pub IsTimedUnit : Listed → Clocking → ℕ → Body → Type 0
 IsTimedUnit listed clocking m body = first_unit ≤ m → m < first_memory listed → IsTimedBody clocking body
 
--- What machine m does, after the machines before it. If one of them is the first of its host, its part is like that one's.
+-- What machine m does, if these are the machines before it. If the first machine of its host is one of them, the two parts are alike.
 pub record IsMadeBody (design : Ordered) (request : Request) (models : Models) (listed : Listed) (hub : Hub) (clocking : Clocking) (machines : List Machine) (m : ℕ) (body : Body) : Type 0 where
   pub is : IsBody design request models listed hub m body
   pub ascend : HasAscending body
@@ -71,8 +71,7 @@ pub record AreMachines (design : Ordered) (request : Request) (models : Models) 
   pub shared : (m n : ℕ) (any other : Machine) → m < length machines → n < length machines → m ≢ n → (slice_index_or machines m any).host ≡ (slice_index_or machines n other).host
       → AreAlike (slice_index_or machines m any).body (slice_index_or machines n other).body
 
--- A part whose needs can be computed: a well-formed piece in an order of evaluation, whose ports are a machine's
--- channels.
+-- A part with needs that can be computed: a well-formed piece in an order of evaluation. Its ports are a machine's channels.
 pub record IsServed (wires : List Wire) (part : Part) (taken given : List ℕ) : Type 0 where
   pub formed : IsWellFormed part.piece
   pub ordered : IsInOrder part.piece
@@ -81,7 +80,7 @@ pub record IsServed (wires : List Wire) (part : Part) (taken given : List ℕ) :
   pub ins : map (value_at part.globals) part.piece.ins ≡ signals_of wires taken
   pub outs : map (value_at part.globals) part.piece.outs ≡ givens_of wires given
 
--- The same of what a machine does: a part of the circuit is served; a source, a tray and a bridge have no needs to compute.
+-- `IsServed` for what a machine does: a part of the circuit is served; a source, a tray and a bridge have no needs to compute.
 abbrev pub IsServedBody : List Wire → Body → List ℕ → List ℕ → Type 0
 IsServedBody wires (Cut part) taken given = IsServed wires part taken given
 IsServedBody wires (Memory part) taken given = IsServed wires part taken given

@@ -44,7 +44,8 @@ is_open takers p = value_at takers p == 0
 
 -- ---- the numbers
 
--- The number of the machine of the port at a place. The ports that no bridge has are numbered from `own` on, the bridges from `bridge` on.
+-- The number of the machine of the port at a place. The ports that no bridge has get numbers starting at `own`, the bridges numbers starting at
+-- `bridge`.
 abbrev pub seat_by : (own bridge : ℕ) → (takers : List ℕ) → ℕ → ℕ
 seat_by own bridge takers p = if is_open takers p then own + count_below (is_open takers) p else bridge + (value_at takers p - 1)
 

@@ -1,4 +1,4 @@
--- What the registers and the ports of memories follow that the machines of a cut have.
+-- What the registers and the ports of memories of a cut's machines follow.
 -- Source: FIRRTL Specification, "Clock" types, "Instances" (which clock a Clock input follows is said where the instance stands). A unit
 -- has its own Clock inputs, so two units of one module are one circuit, whatever clocks they are given.
 use Rattle.std.specs.Prelude.{◌≡◌, ℕ, ◌<◌, ◌^◌, List, [], Bool, None, length, map, slice_index_or}
@@ -19,15 +19,14 @@ pub record AreWholeClocks (circuit : FlatCircuit) (clocking : Clocking) : Type 0
   pub registers : clocking.registers ≡ map (λ register. register.clock) circuit.registers
   pub ports : clocking.ports ≡ map (λ memory. clocks_of_ports memory) circuit.memories
 
--- The Clock inputs that the registers and the ports of memories follow inside of the unit in which they lie, or, outside of all units,
--- inside of the top.
+-- The Clock inputs that the registers and the ports of memories follow inside of their unit, or, outside of all units, inside of the top.
 pub record AreUnitClocks (design : Ordered) (listed : Listed) (clocking : Clocking) : Type 0 where
   pub marks : List Bool
   pub homes : AreHomes listed (is_marked marks)
   pub register : (s r : ℕ) → s < length design.circuit.signals → driver_at design.circuit s ≡ Held r → FollowsInside (is_marked marks) design.tree s r (slice_index_or clocking.registers r None)
   pub ports : (k : ℕ) → k < length design.tree.memories → slice_index_or clocking.ports k [] ≡ ports_inside (is_marked marks) design.tree k
 
--- all that the machines of a cut need of it
+-- the clocks that the machines of a cut have, and that their registers and ports follow
 pub record AreDomains (design : Ordered) (listed : Listed) (domains : Domains) : Type 0 where
   pub whole : AreWholeClocks design.circuit domains.whole
   pub units : AreUnitClocks design listed domains.units

@@ -28,9 +28,8 @@ use Rattle.gg_bits.specs.Limits.{capacity_limit}
 abbrev pub draft_hub : Draft → Hub
 draft_hub draft = plan_hub draft.design.now.circuit draft.design.now.tree draft.request.now
 
--- What holds of a draft: its circuit keeps to its tree and has each register held once; the request has no fault, and is small; what is
--- listed is what the request lists, and lies apart; the machines have what the split gives them; the channels are those of the plan,
--- before the bridges.
+-- What holds of a draft: its circuit keeps to its tree and has each register held once; the request has no fault, and is small; what is listed is
+-- what the request lists, and lies apart; the machines have what the split gives them; the channels are the plan's, before the bridges.
 pub record IsDraft (draft : Draft) : Type 0 where
   pub small : IsSmall draft.request.now
   pub capacity : (0 < draft.default_capacity) × (draft.default_capacity ≤ capacity_limit)
@@ -46,8 +45,8 @@ pub record IsDraft (draft : Draft) : Type 0 where
   pub gone : (s : ℕ) → s < length draft.design.now.circuit.signals → is_marked draft.routed.gone s ≡ is_gone (draft_hub draft) s
   pub sound : AreRoutes draft.design.now draft.listed (draft_hub draft)
 
--- What holds of a machine of a draft: it is the hub, a unit or a listed memory, it has this by the routed channels, and the clocks are those that machines
--- follow.
+-- What holds of a machine of a draft: it is the hub, a unit or a listed memory, it has this by the routed channels, and the clocks are the clocks
+-- that machines follow.
 pub record IsMachineDraft (machine : MachineDraft) : Type 0 where
   pub draft : IsDraft machine.draft.now
   pub known : machine.number < first_source machine.draft.now.listed

@@ -7,14 +7,14 @@ use Rattle.gg_flat_tree.specs.Clocked.{clock_at}
 use Rattle.gg_flat.specs.Line.{value_at}
 use Rattle.gg_flat_tree.specs.Tree.{InstanceTree, Holds as IsHeldBy, instance_at}
 
--- Among the first n instances the one at place p has signal s, and none behind it does.
+-- Among the first n instances the one at place p has signal s, and no later one does.
 pub record IsLast (tree : InstanceTree) (n s p : ℕ) : Type 0 where
   pub known : p < n
   pub holds : IsHeldBy (instance_at tree p) s
   pub last : (k : ℕ) → k < n → IsHeldBy (instance_at tree k) s → k ≤ p
 
--- In a table, register r follows what a signal that holds it follows: `inner` has that of the Clock inputs of each instance, and `places`
--- the innermost instance of each signal.
+-- In a table, register r follows what a signal that holds it follows: `inner` has what the Clock inputs of each instance follow, and `places` the
+-- innermost instance of each signal.
 pub record IsTimedBy (circuit : FlatCircuit) (tree : InstanceTree) (inner : List (List (Option ℕ))) (places : List ℕ) (table : List (Option ℕ)) (r : ℕ) : Type 0 where
   pub signal : ℕ
   pub known : signal < length circuit.signals

@@ -32,7 +32,7 @@ pub record IsMovedPiece (whole other : FlatCircuit) (globals givens : List ℕ) 
   pub outs_within : All (λ s. s < length globals) piece.outs
   pub clocks : piece.clocks ≡ other.clocks
 
--- a part with such a piece, whose clocks follow these
+-- a part with a moved piece, with these numbers and clocks
 pub record IsMovedPart (whole : FlatCircuit) (leader : Part) (globals held banks givens : List ℕ) (clocks : List (Option ℕ)) (part : Part) : Type 0 where
   pub piece : IsMovedPiece whole leader.piece globals givens part.piece
   pub signals : part.globals ≡ globals
@@ -53,11 +53,11 @@ pub record IsUnitPart (design : Ordered) (listed : Listed) (clocking : Clocking)
   pub memories : (k : ℕ) → Contains part.memories k ↔ HasMemory design.tree listed m k
   pub ordered : IsInOrder part.piece
 
--- the same signals as those by which machine m, a unit, gives
+-- exactly the signals that give the channels of machine m, a unit, their values before the routing
 abbrev pub AreGivens : Ordered → Listed → ℕ → List ℕ → Type 0
 AreGivens design listed m givens = (s : ℕ) → Contains givens s ↔ Contains (givens_of (cut_wires design listed) (channels_from (cut_wires design listed) m)) s
 
--- A unit has by the routed channels the signals that it had, takes the same in the same order, and gives by the same.
+-- A unit has by the routed channels the signals that it had, takes the same in the same order, and gives by the same signals.
 pub record IsUnitRouted (design : Ordered) (listed : Listed) (hub : Hub) (m : ℕ) : Type 0 where
   pub signals : (s : ℕ) → (MakesBy hub m s ⊎ Takes (routes hub) m s) ↔ HasSignal design listed m s
   pub ins : signals_of (routes hub) (channels_to (routes hub) m) ≡ signals_of (cut_wires design listed) (channels_to (cut_wires design listed) m)
@@ -70,8 +70,8 @@ pub record IsUnitShare (design : Ordered) (listed : Listed) (n : ℕ) (globals m
   pub banks : (k : ℕ) → Contains memories k ↔ HasMemory design.tree listed n k
   pub ascend : AllPairs (λ a b. a < b) memories
 
--- The part of machine n, a unit, is like that of the first unit of its host, and its memories are ascending. Its registers and ports
--- follow what `clocking` has for the units.
+-- The part of machine n, a unit, is like the part of the first unit of its host, and its memories are ascending. Its registers and ports follow what
+-- `clocking` has for the units.
 pub record IsFollower (design : Ordered) (listed : Listed) (hub : Hub) (clocking : Clocking) (n : ℕ) (leader part : Part) : Type 0 where
   pub cut : IsCutPart design listed hub n part
   pub timed : IsTimed part.piece part.held part.memories clocking.registers clocking.ports
@@ -80,7 +80,7 @@ pub record IsFollower (design : Ordered) (listed : Listed) (hub : Hub) (clocking
 
 -- ---- the registers
 
--- the signals with these numbers hold the registers that `registers` gives for those of the part
+-- the signals with these numbers hold the registers that `registers` gives for the part's registers
 abbrev pub HoldAgain : FlatCircuit → Part → List ℕ → (ℕ → ℕ) → Type 0
 HoldAgain whole part globals registers = (s k : ℕ) → s < length globals → driver_at part.piece s ≡ Held k → driver_at whole (value_at globals s) ≡ Held (registers (value_at part.held k))
 

@@ -14,8 +14,8 @@ use Rattle.gg_cut_plan.specs.Held.{AreHeldOnce}
 use Rattle.gg_cut_reference.specs.Links.{pipes_of}
 use Rattle.gg_cut_reference.specs.Made.{AllHeld, IsFresh}
 
--- The plan is that of a request without a fault. Each register of the design is held by exactly one signal, and no path begins with
--- `pipe:`. The design's signals and the plan's channels are together fewer than 2^32.
+-- The plan is a plan of a request without a fault. Each register of the design is held by exactly one signal, and no path begins with `pipe:`. The
+-- design's signals and the plan's channels are together fewer than 2^32.
 pub record CanPipe (design : Ordered) (plan : Plan) : Type 0 where
   pub request : Request
   pub models : Models
@@ -28,6 +28,6 @@ pub record CanPipe (design : Ordered) (plan : Plan) : Type 0 where
   pub is : IsPlan design request models default plan
   pub few : length design.circuit.signals + length plan.channels < 2 ^ 32
 
--- the order of the reference circuit: the pipes of the request, and behind them the order of the design
+-- the order of the reference circuit: the pipes of the request, followed by the order of the design
 abbrev pub piped_order : Ordered → Request → List ℕ
 piped_order design request = range_with_len (length design.circuit.signals) (length (pipes_of (plan_hub design.circuit design.tree request))) ++ design.order

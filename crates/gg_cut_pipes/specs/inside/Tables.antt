@@ -17,11 +17,11 @@ use Rattle.gg_cut_split.specs.declared.owned.Owned.{Owned}
 use Rattle.gg_cut_plan.specs.Held.{AreHeldOnce}
 use Rattle.gg_cut_pipes.specs.declared.tables.Tables.{Tables}
 
--- the number by which the consumer of a signal's channel sees the signal: that of the pipe, or its own. No pipe has the number 0.
+-- the number that the consumer of a signal's channel sees the signal by: the pipe's, or its own. No pipe has the number 0.
 abbrev pub kept_in : Tables → ℕ → ℕ
 kept_in tables s = if value_at tables.pipes s == 0 then s else value_at tables.pipes s
 
--- the number by which a machine sees a signal
+-- the number that a machine sees a signal by
 abbrev pub seen_in : Tables → ℕ → ℕ → ℕ
 seen_in tables m s = if value_at tables.takers s == m then kept_in tables s else s
 
@@ -36,7 +36,7 @@ views_by tables =
       kept = kept_in tables;
     }
 
--- Each of the first k values is written at its place, and nothing else is changed.
+-- Each of the first k values is written at its place. Otherwise nothing changes.
 pub record IsFilled (places values : List ℕ) (k : ℕ) (before after : List ℕ) : Type 0 where
   pub count : length after ≡ length before
   pub put : (i : ℕ) → i < k → value_at after (value_at places i) ≡ value_at values i
@@ -58,11 +58,11 @@ pub record AreHolding (one : FlatCircuit) (makers : List ℕ) (k : ℕ) (before 
 
 -- ---- the tables of a plan
 
--- the signals of the piped channels, and the machines that take them, in the order of the channels
+-- the signals of the piped channels, in the order of the channels
 abbrev pub piped_places : List Channel → List ℕ
 piped_places channels = map (λ channel. channel.signal) (filter (λ channel. channel.pipe) channels)
 
--- those machines, in the same order
+-- the machines that take the piped channels, in the order of the channels
 abbrev pub piped_takers : List Channel → List ℕ
 piped_takers channels = map (λ channel. channel.consumer) (filter (λ channel. channel.pipe) channels)
 
@@ -70,15 +70,15 @@ piped_takers channels = map (λ channel. channel.consumer) (filter (λ channel. 
 abbrev pub piped_signals : ℕ → List Channel → List ℕ
 piped_signals count channels = filter (λ s. list_any (λ place. s == place) (piped_places channels)) (range_with_len 0 count)
 
--- what belongs to which machine of a cut
+-- the channels of a cut, and the owners of its signals and memories
 pub record AreOwned (design : Ordered) (listed : Listed) (owned : Owned) : Type 0 where
   pub wires : owned.wires ≡ wires_of design.circuit design.tree listed
   pub count : length owned.signals ≡ length design.circuit.signals
   pub signals : (s : ℕ) → s < length design.circuit.signals → IsInner owned.wires s → value_at owned.signals s ≡ owner_of design.circuit design.tree listed s
   pub memories : (place : ℕ) → place < length design.tree.memories → value_at owned.memories place ≡ memory_owner design.tree listed place
 
--- The signals of the piped channels are signals of the circuit, each once, so are those of the pipes, and so are those of the
--- channels before the routing. Each driver that holds a register holds one of the circuit, and no two the same.
+-- These are signals of the circuit, each once: the signals of the piped channels, the signals of the pipes, and the signals of the channels before
+-- the routing. Each driver that holds a register holds one of the circuit, and no two the same.
 pub record CanFill (one : FlatCircuit) (channels : List Channel) (pipes : List ℕ) (owned : Owned) : Type 0 where
   pub places : All (λ s. s < length one.signals) (piped_places channels)
   pub places_once : AllPairs (λ a b. a ≢ b) (piped_places channels)

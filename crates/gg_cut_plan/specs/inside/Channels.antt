@@ -1,4 +1,4 @@
--- More on Channels: what no promise of the program's speaks of.
+-- More on Channels: what no promise of the program reaches.
 -- Source: MEMOCODE 2009 (channels between the nodes of a dataflow network); ICCAD 2019 (a cut at the ports of instances and
 -- of memories).
 use Rattle.std.specs.Prelude.{ℕ, List, ◌++◌, map}

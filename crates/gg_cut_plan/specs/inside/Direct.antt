@@ -1,4 +1,4 @@
--- More on Direct: what no promise of the program's speaks of.
+-- More on Direct: what no promise of the program reaches.
 -- Source: MEMOCODE 2009 (a fork: one out-signal of a node on several channels); this program's profile for which
 -- channels are direct.
 use Rattle.std.specs.Prelude.{◌≡◌, ℕ, List}
@@ -8,7 +8,7 @@ use Rattle.gg_flat.specs.State.{State}
 use Rattle.gg_flat.specs.Settled.{Settled}
 use Rattle.gg_cut_plan.specs.declared.wires.Wire.{Wire}
 
--- ---- what a request asks for
+-- ---- the channels of a request
 
 -- in each settled row both signals of the channel have one value
 abbrev pub IsSame : FlatCircuit → Wire → Type 0

@@ -1,4 +1,4 @@
--- More on Listed: what no promise of the program's speaks of.
+-- More on Listed: what no promise of the program reaches.
 -- Source: ICCAD 2019 (instances and memories of a target that are marked become models of their own); FIRRTL
 -- Specification, "Instances" and "Memories" for what an instance holds.
 use Rattle.std.specs.Prelude.{◌≡◌, ◌<◌, ℕ, List, Bool, ◌==◌, Some, length}
@@ -6,7 +6,7 @@ use Rattle.std.specs.List.{list_any}
 use Rattle.gg_flat_tree.specs.Tree.{InstanceTree, instance_at}
 use Rattle.gg_order.specs.Marks.{is_marked}
 
--- ---- which instance is in which
+-- ---- which instances contain which
 
 -- each instance comes after its parent
 abbrev pub ParentsBefore : InstanceTree → Type 0

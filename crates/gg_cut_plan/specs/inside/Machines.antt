@@ -1,4 +1,4 @@
--- More on Machines: what no promise of the program's speaks of.
+-- More on Machines: what no promise of the program reaches.
 -- Source: MEMOCODE 2009 (the nodes of a network); ICCAD 2019 (units and memories of a target as models of their own, with sources
 -- for its inputs and sinks for its outputs).
 use Rattle.std.specs.Prelude.{◌≡◌, ◌<◌, ℕ, ◌+◌, length}
@@ -8,7 +8,7 @@ use Rattle.gg_cut_plan.specs.declared.numbering.Role.{Role}
 use Rattle.gg_cut_plan.specs.declared.numbering.Role.TheVariants.{Hub, Unit, Memory, Source, Tray}
 use Rattle.gg_cut_plan.specs.Machines.{memory_after, source_after, tray_after, unit_number}
 
--- ---- the number of a unit by its place; and the first number of each kind, behind these many machines of the kinds before
+-- ---- the number after all machines
 
 -- the number of all machines
 abbrev pub end_after : (units memories ins outs : ℕ) → ℕ
@@ -16,24 +16,24 @@ end_after units memories ins outs = tray_after units memories ins + outs
 
 -- ---- in a cut
 
--- the number of its machines
+-- the number of machines of a cut
 abbrev pub machine_count : FlatCircuit → Listed → ℕ
 machine_count circuit listed = end_after (length listed.units) (length listed.memories) (length circuit.ins) (length circuit.outs)
 
 -- ---- how many machines there are of each kind, and what each is
 
--- How many machines there are of each kind besides the hub: a source for each in, and a tray for each out.
+-- How many machines there are of each kind, without the hub: a source for each in, and a tray for each out.
 pub record Counts : Type 0 where
   pub units : ℕ
   pub memories : ℕ
   pub ins : ℕ
   pub outs : ℕ
 
--- those of a cut
+-- the counts of a cut
 abbrev pub numbering_of : FlatCircuit → Listed → Counts
 numbering_of circuit listed = record { units = length listed.units; memories = length listed.memories; ins = length circuit.ins; outs = length circuit.outs }
 
--- machine m is the hub, or what has this place among those of its kind
+-- machine m is the hub, or the machine at this place of its kind
 abbrev pub IsRole : Counts → ℕ → Role → Type 0
 IsRole counts m Hub = m ≡ 0
 IsRole counts m (Unit place) = (place < counts.units) × (m ≡ unit_number place)

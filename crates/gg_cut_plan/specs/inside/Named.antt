@@ -8,7 +8,7 @@ use Rattle.gg_cut_plan.specs.Clocks.{ratio_with}
 abbrev pub ratio_named : List (List ℕ × (ℕ × ℕ)) → List ℕ → Option Ratio
 ratio_named clocks name = option_map (λ pair. ratio_with pair.1) (find (λ pair. bytes_eq pair.0 name) clocks)
 
--- These names are those of the first i clocks, and these ratios are those that are given for them.
+-- These are the names of the first i clocks, with the ratios that are given for them.
 pub record AreNamed (clocks : List (List ℕ × (ℕ × ℕ))) (i : ℕ) (names : List (List ℕ)) (ratios : List Ratio) : Type 0 where
   pub count : length ratios ≡ length names
   pub few : length names ≤ i

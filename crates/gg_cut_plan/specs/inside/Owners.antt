@@ -1,4 +1,4 @@
--- The machine of an instance, from that of its parent.
+-- The machine of an instance, from its parent's machine.
 -- Source: this program's own way to find the owners of all instances in one pass.
 use Rattle.std.specs.Prelude.{ℕ, zero, suc, List, Option, Some, None, nat_lt, if◌then◌else◌}
 use Rattle.gg_flat.specs.Line.{value_at}

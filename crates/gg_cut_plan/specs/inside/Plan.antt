@@ -1,4 +1,4 @@
--- More on Plan: what no promise of the program's speaks of.
+-- More on Plan: what no promise of the program reaches.
 -- Source: MEMOCODE 2009 (a network of machines that are latency-insensitive: an output depends only on the inputs
 -- that it is computed from); ICCAD 2019 (instances and memories of a target as models of their own).
 use Rattle.std.specs.Prelude.{◌≡◌, ◌⊎◌, ℕ, ◌<◌, ◌+◌, ◌-◌, List, ◌∷◌, ◌++◌, length, map, take, drop, codes, Contains}

@@ -1,4 +1,4 @@
--- More on Seated: what no promise of the program's speaks of.
+-- More on Seated: what no promise of the program reaches.
 -- Source: ICCAD 2019 (bridges: models in the host's own code that stand at a target's ports).
 use Rattle.std.specs.Prelude.{◌≡◌, ℕ, ◌+◌, ◌-◌, ◌<◌, Some}
 use Rattle.gg_cut_plan.specs.Seated.{Bridges, first_bridge, seat_of}
@@ -18,7 +18,7 @@ IsKept b m = seat_of b m < first_bridge b
 pub record IsSeen (b : Bridges) (k m : ℕ) : Type 0 where
   pub place : ℕ
   pub known : place < b.outs
-  -- trays are behind all sources
+  -- trays come after all sources
   pub is : m ≡ b.first + b.ins + place
   pub viewer : b.viewer place ≡ Some k
 

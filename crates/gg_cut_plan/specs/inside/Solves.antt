@@ -1,4 +1,4 @@
--- More on Solves: what no promise of the program's speaks of.
+-- More on Solves: what no promise of the program reaches.
 -- Source: MEMOCODE 2009 (a network of machines has the streams of the synchronous circuit that it was cut from; a token at the start
 -- comes before what a producer gives).
 use Rattle.std.specs.Prelude.{◌≡◌, ℕ, ◌<◌, ◌≤◌, List, [], ◌==◌, unwrap_or, length, map, take, slice_index_or, All}
@@ -22,11 +22,11 @@ pub record GivesColumns (part : Part) (start : Start) (end : ℕ) (ins outs : Li
   pub run : AreRows part.piece (part_start part.held part.memories part.clocks start) ins end rows
   pub gives : (others : List (List ℕ)) → AreRows part.piece (part_start part.held part.memories part.clocks start) ins end others → map (column others) part.piece.outs ≡ outs
 
--- A column has the values of another in the cycles from the start's on, below `end`.
+-- A column has the values of another in the cycles below `end`, starting at the start's cycle.
 abbrev pub AgreesFrom : Start → ℕ → List ℕ → List ℕ → Type 0
 AgreesFrom start end values out = (t : ℕ) → start.cycle ≤ t → t < end → value_at out t ≡ value_at values t
 
--- the columns of what a bridge sees, in its model's order, from those of the channels that it takes, which are at these places
+-- the columns of what a bridge sees, in its model's order, from the columns of the channels that it takes, which are at these places
 abbrev pub in_order : List ℕ → List (List ℕ) → List (List ℕ)
 in_order places ins = map (λ p. slice_index_or ins (unwrap_or (first_place (λ q. q == p) places) 0) []) (range_with_len 0 (length places))
 
@@ -37,8 +37,8 @@ pub record GivesSaid (bridge : BridgeBody) (start : Start) (end : ℕ) (ins outs
   pub run : AreRows bridge.model (model_start bridge.model start) (in_order bridge.ins ins) end rows
   pub gives : (others : List (List ℕ)) → AreRows bridge.model (model_start bridge.model start) (in_order bridge.ins ins) end others → map (λ place. column others (value_at bridge.model.outs place)) bridge.outs ≡ outs
 
--- How a machine answers: its outputs are those of the run of its piece on its inputs. Each output of a source has, from the start on,
--- the values of its column. A tray has no output. A bridge says what its model says.
+-- How a machine answers: its outputs are the outputs of its piece's run on its inputs. Each output of a source has the values of its column, starting
+-- at the start's cycle. A tray has no output. A bridge says what its model says.
 abbrev pub Answers : Body → Start → ℕ → List (List ℕ) → List (List ℕ) → List (List ℕ) → Type 0
 Answers (Cut part) start end given ins outs = GivesColumns part start end ins outs
 Answers (Memory part) start end given ins outs = GivesColumns part start end ins outs

@@ -7,7 +7,7 @@ use Rattle.gg_cut_plan.specs.Bridges.{Models}
 
 -- ---- at the ports of a circuit
 
--- Each is what a bridge's model has to be, and no name has a dot.
+-- Each model is what a bridge's model has to be, and no name has a dot.
 pub record AreModels (models : Models) : Type 0 where
   pub each : All (λ model. IsModel model.1) models
   pub plain : (name : List ℕ) → Contains (model_names models) name → ¬ Contains name 46

@@ -1,4 +1,4 @@
--- Entries of bridges that fit: they are those without a fault, and can be at the ports of a circuit.
+-- Entries of bridges that fit: entries without a fault fit, and entries that fit can be at the ports of a circuit.
 -- Source: ICCAD 2019 (bridges: models in the host's own code that stand at a target's ports).
 use Rattle.std.specs.Prelude.{◌≡◌, ℕ, ◌-◌, List, None, length, map, take}
 use Rattle.gg_flat.specs.Circuit.{FlatCircuit}
@@ -13,7 +13,7 @@ use Rattle.gg_cut_reference.specs.fitting.Fitting.{AreModels}
 abbrev pub FaultlessAreFitting : Type 0
 FaultlessAreFitting =
     (circuit : FlatCircuit) (stops : ℕ) (models : Models) (entries : List BridgeEntry)
-    -- The entries have no fault for a circuit whose last out-signals are so many stops.
+    -- The entries have no fault for a circuit with this many stops, which are its last out-signals.
     → first_of (bridge_faults circuit stops models entries) ≡ None
     -- They fit its ports, where the out-signals before the stops are its outputs.
     → AreFitting circuit (take (length circuit.outs - stops) circuit.outs) models entries
@@ -24,7 +24,7 @@ FittingCanAttach =
     (circuit : FlatCircuit) (outs : List ℕ) (models : Models) (one : FlatCircuit) (seen_at driven_at : List ℕ → ℕ) (entries : List BridgeEntry)
     -- The ports of `circuit` have these signals in the circuit `one`.
     → ArePortsAt circuit outs one seen_at driven_at
-    -- The models may be those of bridges, and the entries fit them.
+    -- The models may be bridges' models, and the entries fit them.
     → AreModels models → AreFitting circuit outs models entries
     -- The bridges can be at those signals.
     → CanAttachEach one (map (attached_of seen_at driven_at models) entries)

@@ -1,4 +1,4 @@
--- More on Fitting: what no promise of the program's speaks of.
+-- More on Fitting: what no promise of the program reaches.
 -- Source: ICCAD 2019 (bridges: models in the host's own code that stand at a target's ports).
 use Rattle.std.specs.Prelude.{◌≡◌, ◌≢◌, ℕ, ◌<◌, List, ◌++◌, codes, true, Some, All, length, map, flat_map, slice_index_or, AllPairs, Contains}
 use Rattle.gg_flat.specs.Circuit.{FlatCircuit, signal_shapes}
@@ -21,7 +21,7 @@ pub record IsFitting (circuit : FlatCircuit) (outs : List ℕ) (models : Models)
   pub seen_types : fit_ports circuit entry.sees (shapes_at model model.ins) ≡ true
   pub driven_types : fit_ports circuit entry.drives (shapes_at model model.outs) ≡ true
 
--- All entries do, no two have one name, and no port is listed twice.
+-- All entries fit, no two have one name, and no port is listed twice.
 pub record AreFitting (circuit : FlatCircuit) (outs : List ℕ) (models : Models) (entries : List BridgeEntry) : Type 0 where
   pub each : (k : ℕ) (any : BridgeEntry) → k < length entries → IsFitting circuit outs models (slice_index_or entries k any)
   pub names : AllPairs (λ a b. a ≢ b) (map (λ entry. entry.name) entries)
@@ -30,7 +30,7 @@ pub record AreFitting (circuit : FlatCircuit) (outs : List ℕ) (models : Models
 
 -- ---- at the ports of a circuit
 
--- The bridge of an entry at the ports of a circuit, in which the ports have these signals.
+-- The bridge of an entry at the ports of a circuit. The ports have these signals there.
 abbrev pub attached_of : (seen_at driven_at : List ℕ → ℕ) → Models → BridgeEntry → Attached
 attached_of seen_at driven_at models entry =
     record {
@@ -40,7 +40,7 @@ attached_of seen_at driven_at models entry =
       drives = map driven_at entry.drives;
     }
 
--- The ports of `circuit` have these signals in the circuit `one`, with their types. No path there begins as those of bridges do.
+-- The ports of `circuit` have these signals in the circuit `one`, with their types. No path there begins as the paths of bridges do.
 pub record ArePortsAt (circuit : FlatCircuit) (outs : List ℕ) (one : FlatCircuit) (seen_at driven_at : List ℕ → ℕ) : Type 0 where
   pub seen : (port : List ℕ) → Contains (channel_names circuit outs) port → (seen_at port < length one.signals) × (port_shape circuit port ≡ Some (shape_at (signal_shapes one) (seen_at port)))
   pub driven : (port : List ℕ) → Contains (channel_names circuit circuit.ins) port → Contains one.ins (driven_at port) × (port_shape circuit port ≡ Some (shape_at (signal_shapes one) (driven_at port)))

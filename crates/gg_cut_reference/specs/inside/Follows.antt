@@ -1,4 +1,4 @@
--- More on Follows: what no promise of the program's speaks of.
+-- More on Follows: what no promise of the program reaches.
 -- Source: MEMOCODE 2009 (the values of each channel, cycle by cycle; a token at the start comes before them).
 use Rattle.std.specs.Prelude.{◌≡◌, ℕ, List, map, take}
 use Rattle.gg_flat.specs.Run.{Start, column}
@@ -19,8 +19,8 @@ given_column hub rows c = column rows (wire_at (routes hub) c).given
 abbrev pub taken_column : Hub → Start → (end : ℕ) → List (List ℕ) → ℕ → List ℕ
 taken_column hub start end rows c = take end (stream start.cycle (token_of hub start.state (wire_at (routes hub) c).signal) (hub.piped (wire_at (routes hub) c).signal) (given_column hub rows c))
 
--- The piece of machine m has a run on what the machine takes, from its part of the start on, and in each such run the columns of its
--- out-signals are what the machine gives.
+-- The piece of machine m has a run on what the machine takes, starting at its part of the start, and in each such run the columns of its out-signals
+-- are what the machine gives.
 pub record Follows (hub : Hub) (m : ℕ) (start : Start) (end : ℕ) (part : Part) (rows : List (List ℕ)) : Type 0 where
   pub own : List (List ℕ)
   pub run : AreRows part.piece (part_start part.held part.memories part.clocks start) (map (taken_column hub start end rows) (channels_to (routes hub) m)) end own

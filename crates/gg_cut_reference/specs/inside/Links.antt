@@ -1,4 +1,4 @@
--- More on Links: what no promise of the program's speaks of.
+-- More on Links: what no promise of the program reaches.
 -- Source: MEMOCODE 2009 (channels between the nodes of a dataflow network; tokens that are there at the start).
 use Rattle.std.specs.Prelude.{◌≡◌, ℕ, ◌<◌, List, length, Contains}
 use Rattle.gg_flat.specs.Circuit.{driver_at}

@@ -1,4 +1,4 @@
--- Which bridge has a port: the one whose entry lists the port's path.
+-- Which bridge has a port: the bridge of the entry that lists the port's path.
 -- Source: ICCAD 2019 (bridges: models in the host's own code that stand at a target's ports).
 use Rattle.std.specs.Prelude.{◌≡◌, ◌≢◌, ℕ, ◌<◌, ◌-◌, AllPairs, Contains, Some, length}
 use Rattle.gg_flat.specs.Circuit.{FlatCircuit}
@@ -15,7 +15,7 @@ DriversListTheirInputs =
     (circuit : FlatCircuit) (tree : InstanceTree) (request : Request) (p k : ℕ)
     -- Bridge k drives input p.
     → (plan_bridges circuit tree request).driver p ≡ Some k
-    -- There is an entry k, and it lists the input's path among those that it drives.
+    -- There is an entry k, and it lists the input's path in `drives`.
     → (k < length request.bridges) × Contains (entry_at request.bridges k).drives (path_at circuit.paths (value_at circuit.ins p))
 
 -- Where no input is listed twice, the bridge that lists an input's path drives it.
@@ -35,7 +35,7 @@ ViewersListTheirOutputs =
     (circuit : FlatCircuit) (tree : InstanceTree) (request : Request) (p k : ℕ)
     -- Bridge k sees out-signal p.
     → (plan_bridges circuit tree request).viewer p ≡ Some k
-    -- That is an output, no stop; there is an entry k, and it lists the output's path among those that it sees.
+    -- That is an output, no stop; there is an entry k, and it lists the output's path in `sees`.
     → (p < length circuit.outs - length tree.stops) × (k < length request.bridges) × Contains (entry_at request.bridges k).sees (path_at circuit.paths (value_at circuit.outs p))
 
 -- Where no output is listed twice, the bridge that lists an output's path sees it.

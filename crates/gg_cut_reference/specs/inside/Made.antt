@@ -1,4 +1,4 @@
--- More on Made: what no promise of the program's speaks of.
+-- More on Made: what no promise of the program reaches.
 -- Source: this program's profile (the numbers and the paths of pipes).
 use Rattle.std.specs.Prelude.{ℕ, Bool}
 use Rattle.gg_flat.specs.Circuit.{FlatCircuit}
@@ -11,7 +11,7 @@ use Rattle.gg_cut_reference.specs.Made.{holder_of, keeper_of}
 
 -- ---- holders and keepers
 
--- who names what in a cut: of a circuit with its tree, what is listed, the signals whose channels are piped, the inputs that a
--- bridge drives, and whether channels are to be direct
+-- who names what in a cut: of a circuit with its tree, what is listed, the signals of piped channels, the inputs that a bridge drives, and whether
+-- channels are to be direct
 abbrev pub views_in : FlatCircuit → InstanceTree → Listed → (piped driven : ℕ → Bool) → Bool → Views
 views_in circuit tree listed piped driven direct = let hub = hub_of circuit tree listed piped driven direct in views_of hub (holder_of hub) (keeper_of tree listed)

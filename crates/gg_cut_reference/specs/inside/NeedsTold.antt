@@ -1,4 +1,4 @@
--- The text of a cut tells what each channel needs.
+-- The text of a cut says what each channel needs.
 -- Source: MEMOCODE 2009 (what an output of a machine depends on).
 use Rattle.std.specs.Prelude.{ℕ, ◌<◌, length, slice_index_or}
 use Rattle.gg_order.specs.Design.{Ordered}
@@ -15,9 +15,9 @@ use Rattle.gg_cut_reference.specs.text.CheckText.{AreChannelNeeds}
 abbrev pub NeedsAreTold : Type 0
 NeedsAreTold =
     (design : Ordered) (request : Request) (models : Models) (default : ℕ) (plan : Plan)
-    -- The plan is that of the request.
+    -- The plan is a plan of the request.
     → IsPlan design request models default plan
     -- The channel is one of the plan.
     → (c : ℕ) (any : Channel) → c < length (plan_wires design.circuit design.tree request)
-    -- What the plan says that it needs, it needs in the circuit, and nothing else.
+    -- The channel's needs in the plan are exactly its needs in the circuit.
     → AreChannelNeeds design.circuit (listed_of design.tree request) (plan_wires design.circuit design.tree request) c (slice_index_or plan.channels c any).needs

@@ -9,7 +9,7 @@ use Rattle.gg_cut_plan.specs.declared.plan.Machine.{Machine}
 use Rattle.gg_cut_plan.specs.declared.plan.Plan.{Plan}
 use Rattle.gg_cut_reference.specs.text.CheckText.{channel_line, machine_line}
 
--- the names of machines and of channels
+-- the names of machines, in order
 abbrev pub machine_names : List Machine → List (List ℕ)
 machine_names machines = map (λ machine. machine.name) machines
 

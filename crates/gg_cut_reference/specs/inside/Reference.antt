@@ -1,4 +1,4 @@
--- More on Reference: what no promise of the program's speaks of.
+-- More on Reference: what no promise of the program reaches.
 -- Source: MEMOCODE 2009 (a buffer with a token in it at the start delays a stream by a cycle); this program's profile.
 use Rattle.std.specs.Prelude.{◌≡◌, ◌⊎◌, ℕ, ◌+◌, ◌<◌, List, [], ◌∷◌, ◌++◌, codes, Some, None, length, map, slice_index_or}
 use Rattle.gg_bits.specs.Shape.{Shape, shape}
@@ -27,26 +27,26 @@ pub record IsPipeRegister (register : Register) (sink : Shape) (c : ℕ) : Type 
   pub wide : shape node.ty ≡ sink
 
 -- The circuit `all` is the reference circuit of `one`, where the channels of the signals in `pipes` are piped. Signals,
--- registers and memories keep their numbers; the pipes come behind.
+-- registers and memories keep their numbers, and the pipes come after them.
 pub record IsReference (one all : FlatCircuit) (views : Views) (pipes : List ℕ) : Type 0 where
   pub signals : length all.signals ≡ length one.signals + length pipes
   pub shapes : (s : ℕ) → s < length one.signals → shape_at (signal_shapes all) s ≡ shape_at (signal_shapes one) s
-  -- a driver names the other signals as the machine sees them in which it stands
+  -- a driver names the other signals as its machine sees them
   pub drivers : (s : ℕ) → s < length one.signals → driver_at all s ≡ renamed_driver (signals_by (views.seen (views.maker s))) (driver_at one s)
   pub registers : length all.registers ≡ length one.registers + length pipes
-  -- so does a register, by the machine that holds it
+  -- a register names signals as the machine that holds it sees them
   pub register : (r : ℕ) (any other : Register) → r < length one.registers → slice_index_or all.registers r other ≡ renamed_register (signals_by (views.seen (views.holder r))) (slice_index_or one.registers r any)
   pub memories : length all.memories ≡ length one.memories
-  -- and a memory, by the machine that has it
+  -- a memory names signals as the machine that has it sees them
   pub memory : (m : ℕ) (any other : Memory) → m < length one.memories → slice_index_or all.memories m other ≡ renamed_memory (signals_by (views.seen (views.keeper m))) (slice_index_or one.memories m any)
   pub paths : all.paths ≡ one.paths ++ map (λ c. codes "pipe:" ++ path_at one.paths c) pipes
   pub ins : all.ins ≡ one.ins
-  -- each out-signal as its tray sees it
+  -- each out-signal is what its tray sees
   pub outs : all.outs ≡ map views.kept one.outs
   pub clocks : all.clocks ≡ one.clocks
   -- a pipe has the type of its channel's signal
   pub pipe_shape : (k : ℕ) → k < length pipes → shape_at (signal_shapes all) (length one.signals + k) ≡ shape_at (signal_shapes one) (value_at pipes k)
-  -- its value is that of a register of its own, behind those of `one`
+  -- it is held by a register of its own, after the registers of `one`
   pub pipe_driver : (k : ℕ) → k < length pipes → driver_at all (length one.signals + k) ≡ Held (length one.registers + k)
   -- this register takes the value of the channel's signal in each tick
   pub pipe_register : (k : ℕ) (any : Register) → k < length pipes → IsPipeRegister (slice_index_or all.registers (length one.registers + k) any) (shape_at (signal_shapes one) (value_at pipes k)) (value_at pipes k)

@@ -49,7 +49,7 @@ ReferencesAreOrdered =
     (design : Ordered) (listed : Listed) (piped driven : ℕ → Bool) (direct : Bool)
     -- The design keeps to its tree, and what is listed is apart.
     → IsDesign design → KeepsToTree design.circuit design.tree → AreApart design.tree listed
-    -- The pipes, and behind them the order of the design, are an order of the reference circuit.
+    -- The pipes, followed by the order of the design, are an order of the reference circuit.
     → IsOrder (reference_circuit design.circuit design.tree listed piped driven direct) (range_with_len (length design.circuit.signals) (length (pipes_of (hub_of design.circuit design.tree listed piped driven direct))) ++ design.order)
 
 -- Where no channel is piped, the reference circuit is the circuit itself.
@@ -67,11 +67,11 @@ NothingIsPiped =
 abbrev pub PipesDecideReference : Type 0
 PipesDecideReference =
     (design : Ordered) (request other : Request)
-    -- The design keeps to its tree, and each of its registers is that of a signal.
+    -- The design keeps to its tree, and each of its registers is held by a signal.
     → IsDesign design → KeepsToTree design.circuit design.tree → AllHeld design.circuit
     -- Neither request has a fault.
     → first_fault design request ≡ None → first_fault design other ≡ None
-    -- They ask for the same pipes.
+    -- They list the same pipes.
     → ((name : List ℕ) → Contains request.pipe name ↔ Contains other.pipe name)
     -- Then they have one reference circuit.
     → plan_reference design request ≡ plan_reference design other
@@ -80,11 +80,11 @@ PipesDecideReference =
 abbrev pub PipesDecideStart : Type 0
 PipesDecideStart =
     (design : Ordered) (request other : Request)
-    -- The design keeps to its tree, and each of its registers is that of a signal.
+    -- The design keeps to its tree, and each of its registers is held by a signal.
     → IsDesign design → KeepsToTree design.circuit design.tree → AllHeld design.circuit
     -- Neither request has a fault.
     → first_fault design request ≡ None → first_fault design other ≡ None
-    -- They ask for the same pipes, and give each clock the same ratio.
+    -- They list the same pipes, and give each clock the same ratio.
     → ((name : List ℕ) → Contains request.pipe name ↔ Contains other.pipe name)
     → ((clock : List ℕ) → ratio_of request.clocks clock ≡ ratio_of other.clocks clock)
     -- Then their runs start alike.

@@ -26,7 +26,7 @@ MachinesFollow =
     (m : ℕ) (part : Part) (start : Start) (columns : List (List ℕ)) (end : ℕ) (rows : List (List ℕ))
     -- The design keeps to its tree, what is listed is apart, and no register is held by two signals.
     → IsDesign design → KeepsToTree design.circuit design.tree → AreApart design.tree listed → AreHeldOnce design.circuit
-    -- The part is that of machine m.
+    -- The part is the part of machine m.
     → IsCutPart design listed (hub_of design.circuit design.tree listed piped driven direct) m part
     -- The reference circuit has a run with these rows.
     → IsState (reference_circuit design.circuit design.tree listed piped driven direct) start.state
@@ -34,11 +34,11 @@ MachinesFollow =
     -- Then the part has a run on what the machine takes, and in each such run the machine gives what its channels carry.
     → Follows (hub_of design.circuit design.tree listed piped driven direct) m start end part rows
 
--- The signal of the reference circuit by which its consumer gets channel c has the values that the channel brings.
+-- The signal of the reference circuit that the consumer of channel c gets has the values that the channel brings.
 abbrev pub BringsValues : Hub → Start → (end : ℕ) → List (List ℕ) → ℕ → Type 0
 BringsValues hub start end rows c = column rows (taken_as hub (wire_at (routes hub) c).signal) ≡ taken_column hub start end rows c
 
--- A channel brings its consumer what its producer gives, a cycle later and behind a token where it is piped.
+-- A channel brings its consumer what its producer gives, a cycle later and after a token where it is piped.
 abbrev pub ChannelsFollow : Type 0
 ChannelsFollow =
     (design : Ordered) (listed : Listed) (piped driven : ℕ → Bool) (direct : Bool)
@@ -64,7 +64,7 @@ SourcesFollow =
     → IsColumns (reference_circuit design.circuit design.tree listed piped driven direct) end columns
     → IsState (reference_circuit design.circuit design.tree listed piped driven direct) start.state
     → AreRows (reference_circuit design.circuit design.tree listed piped driven direct) start columns end rows
-    -- The channel is one of those of the source of the top input at place p.
+    -- The source of the top input at place p gives the channel.
     → p < length design.circuit.ins
     → Contains (channels_from (routes (hub_of design.circuit design.tree listed piped driven direct)) (first_source listed + p)) c
     -- In each cycle of the run it is given the input's value.

@@ -1,4 +1,4 @@
--- What a machine keeps whose place no bridge takes: its channels and its name.
+-- What a machine keeps if no bridge takes its place: its channels and its name.
 -- Source: ICCAD 2019 (bridges: models in the host's own code that stand at a target's ports).
 use Rattle.std.specs.Prelude.{◌≡◌, ℕ, ◌<◌, ◌+◌, ◌++◌, List, All, codes, length}
 use Rattle.gg_flat_tree.specs.Tree.{path_at}
@@ -11,7 +11,7 @@ use Rattle.gg_cut_plan.specs.inside.Seated.{AreBridges, IsKept}
 use Rattle.gg_cut_plan.specs.Seated.{Bridges, first_bridge, plan_bridges, seat_of, seated}
 use Rattle.gg_cut_plan.specs.declared.wires.Wire.{Wire}
 
--- A machine whose place no bridge takes keeps the channels that lead to it.
+-- A machine keeps the channels that lead to it, if no bridge takes its place.
 abbrev pub ChannelsToAreKept : Type 0
 ChannelsToAreKept =
     (b : Bridges) (wires : List Wire) (m : ℕ) → AreBridges b
@@ -19,10 +19,10 @@ ChannelsToAreKept =
     → All (λ w. (w.producer < b.first + b.ins + b.outs) × (w.consumer < b.first + b.ins + b.outs)) wires
     -- No bridge takes the place of machine m.
     → m < b.first + b.ins + b.outs → IsKept b m
-    -- The channels to its new number are those to its old one.
+    -- The channels to its new number are the channels to its old one.
     → channels_to (seated b wires) (seat_of b m) ≡ channels_to wires m
 
--- It keeps the channels that lead from it.
+-- A machine keeps the channels that lead from it, if no bridge takes its place.
 abbrev pub ChannelsFromAreKept : Type 0
 ChannelsFromAreKept =
     (b : Bridges) (wires : List Wire) (m : ℕ) → AreBridges b
@@ -30,10 +30,10 @@ ChannelsFromAreKept =
     → All (λ w. (w.producer < b.first + b.ins + b.outs) × (w.consumer < b.first + b.ins + b.outs)) wires
     -- No bridge takes the place of machine m.
     → m < b.first + b.ins + b.outs → IsKept b m
-    -- The channels from its new number are those from its old one.
+    -- The channels from its new number are the channels from its old one.
     → channels_from (seated b wires) (seat_of b m) ≡ channels_from wires m
 
--- It keeps its name.
+-- A machine keeps its name, if no bridge takes its place.
 abbrev pub NamesAreKept : Type 0
 NamesAreKept =
     (design : Ordered) (request : Request) (m : ℕ)
@@ -44,7 +44,7 @@ NamesAreKept =
     -- The name at its new number is the one at its old number.
     → path_at (machine_names design request (listed_of design.tree request)) (seat_of (plan_bridges design.circuit design.tree request) m) ≡ path_at (cut_names design request (listed_of design.tree request)) m
 
--- The machines of bridges are behind all others, each named after its entry.
+-- The machines of bridges come after all others, each named after its entry.
 abbrev pub BridgesAreNamed : Type 0
 BridgesAreNamed =
     (design : Ordered) (request : Request) (k : ℕ) → k < length request.bridges

@@ -1,4 +1,4 @@
--- More on Whole: what no promise of the program's speaks of.
+-- More on Whole: what no promise of the program reaches.
 -- Source: ICCAD 2019 (bridges: models in the host's own code that stand at a target's ports, so that target and models together are one
 -- simulated system); FIRRTL Specification, "Connects".
 use Rattle.std.specs.Prelude.{◌≡◌, ℕ, ◌<◌, ◌≤◌, ◌+◌, List, [], ◌∷◌, ⊤, length, map, sum, take, slice_index_or, unwrap_or}
@@ -24,7 +24,7 @@ use Rattle.gg_cut_reference.specs.Made.{plan_reference}
 
 -- ---- what has to hold
 
--- Each bridge can stand at its ports in the circuit with those before it.
+-- Each bridge can be at its ports in the circuit with the bridges before it.
 abbrev pub CanStandAll : Models → FlatCircuit → List BridgeEntry → Type 0
 CanStandAll models one [] = ⊤
 CanStandAll models one (entry ∷ entries) =
@@ -37,8 +37,7 @@ CanStandAll models one (entry ∷ entries) =
 abbrev pub signal_called : FlatCircuit → List ℕ → ℕ
 signal_called circuit name = unwrap_or (place_of circuit.paths name) 0
 
--- the signal of the reference circuit that a bridge sees at an output, which is that of the output's pipe if it has one; and the one that a
--- bridge drives at an input
+-- the signal of the reference circuit that a bridge sees at an output: the output's pipe, if it has one, otherwise the output
 abbrev pub bridge_signal : Ordered → Request → List ℕ → ℕ
 bridge_signal design request name = taken_as (plan_hub design.circuit design.tree request) (signal_called design.circuit name)
 
@@ -46,15 +45,15 @@ bridge_signal design request name = taken_as (plan_hub design.circuit design.tre
 abbrev pub driven_signal : Ordered → List ℕ → ℕ
 driven_signal design name = signal_called design.circuit name
 
--- the number of the first signal of the model of entry k, and the numbers of all
+-- the number of the first signal of the model of entry k, in the whole
 abbrev pub model_first : Ordered → Request → Models → ℕ → ℕ
 model_first design request models k = length (plan_reference design request).signals + sum (map (λ entry. length (model_of models entry).signals) (take k request.bridges))
 
--- the numbers of all its signals in the whole
+-- the numbers of all signals of the model of entry k, in the whole
 abbrev pub model_signals : Ordered → Request → Models → ℕ → List ℕ
 model_signals design request models k = range_with_len (model_first design request models k) (length (model_of models (entry_at request.bridges k)).signals)
 
--- the rows of the reference circuit in those of the whole
+-- the rows of the reference circuit, in the rows of the whole
 abbrev pub reference_rows : Ordered → Request → List (List ℕ) → List (List ℕ)
 reference_rows design request rows = part_rows (range_with_len 0 (length (plan_reference design request).signals)) rows
 

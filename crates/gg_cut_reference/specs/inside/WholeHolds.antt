@@ -23,7 +23,7 @@ OutsAreKept =
     (design : Ordered) (request : Request) (models : Models)
     -- The design, the request and the models are fit for bridges.
     → CanBridge design request models
-    -- They are the outputs that no bridge sees, and behind them the stops, each as it is taken, from a pipe or not.
+    -- They are the outputs that no bridge sees, followed by the stops, each as it is taken, from a pipe or not.
     → (plan_circuit design request models).outs ≡ map (taken_as (plan_hub design.circuit design.tree request)) (open_outs design.circuit (output_count design) request ++ drop (output_count design) design.circuit.outs)
 
 -- A run of the whole is a run of the reference circuit and of each model.
@@ -46,13 +46,13 @@ ZerosStay =
     (design : Ordered) (request : Request) (models : Models)
     → plan_begin design request models (plan_start design request) ≡ clocked_start (plan_circuit design request models) (ratios_of design.tree request)
 
--- The state in which the whole starts is one that it can be in.
+-- The whole starts in a state that it can be in.
 abbrev pub StartsAreTyped : Type 0
 StartsAreTyped =
     (design : Ordered) (request : Request) (models : Models) (start : Start)
     -- The design, the request and the models are fit for bridges.
     → CanBridge design request models
-    -- The reference circuit can be in the state in which it starts.
+    -- The reference circuit can be in the state of its start.
     → IsState (plan_reference design request) start.state
-    -- So can the whole, where each model has zeros.
+    -- Then the whole can be in the state of its own start, where each model has zeros.
     → IsState (plan_circuit design request models) (plan_begin design request models start).state

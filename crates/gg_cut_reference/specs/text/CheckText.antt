@@ -30,7 +30,7 @@ abbrev pub IsPathInside : FlatCircuit → List ℕ → ℕ → List ℕ → ℕ 
 IsPathInside circuit taken a [] b = a ≡ b
 IsPathInside circuit taken a (next ∷ path) b = (¬ Contains taken a) × Reads circuit a next × IsPathInside circuit taken next path b
 
--- Channel c needs channel d: the machine that gives c is no source and no bridge, it takes d, and the signal by which it gives c reaches d's
+-- Channel c needs channel d: the machine that gives c is no source and no bridge, it takes d, and the signal that gives c its value reaches d's
 -- signal by reads inside that machine.
 pub record NeedsChannel (circuit : FlatCircuit) (listed : Listed) (wires : List Wire) (c d : ℕ) : Type 0 where
   pub made : (wire_at wires c).producer < first_source listed
@@ -46,7 +46,7 @@ pub record AreChannelNeeds (circuit : FlatCircuit) (listed : Listed) (wires : Li
 
 -- ---- lines
 
--- `UInt<w>` or `SInt<w>`
+-- the text of a type up to its width: `UInt<` or `SInt<`
 abbrev pub kind_text : Kind → List ℕ
 kind_text UInt = codes "UInt<"
 kind_text SInt = codes "SInt<"
@@ -55,7 +55,7 @@ kind_text SInt = codes "SInt<"
 abbrev pub type_text : Shape → List ℕ
 type_text shape = kind_text shape.kind ++ decimal shape.width ++ codes ">"
 
--- the names of needed channels with a blank before each, or ` -`
+-- the names of needed channels, each after a blank
 abbrev pub spaced : List (List ℕ) → List ℕ
 spaced [] = []
 spaced (name ∷ names) = 32 ∷ name ++ spaced names
@@ -69,7 +69,7 @@ needs_text (name ∷ names) = spaced (name ∷ names)
 abbrev pub machine_line : (name : List ℕ) (host : ℕ) → List ℕ
 machine_line name host = codes "machine " ++ name ++ codes " host " ++ decimal host ++ codes "\n"
 
--- the word that tells a channel with a pipe
+-- the word on the line of a channel with a pipe
 abbrev pub pipe_text : Bool → List ℕ
 pipe_text pipe = if pipe then codes " pipe" else []
 
@@ -109,7 +109,7 @@ pub record IsCutText (design : Ordered) (request : Request) (default : ℕ) (lis
   pub is : text ≡ flat_map (machine_text design request listed) (range_with_len 0 (machine_end (plan_bridges design.circuit design.tree request)))
       ++ flat_map (λ c. channel_text design request default listed wires c (slice_index_or needs c [])) (range_with_len 0 (length wires))
 
--- the text of the cut that a request asks for, by what it lists and by the plan's channels
+-- the text of the cut of a request, by what it lists and by the plan's channels
 abbrev pub IsTextOfCut : Ordered → Request → ℕ → List ℕ → Type 0
 IsTextOfCut design request default text =
     IsCutText design request default (listed_of design.tree request) (plan_wires design.circuit design.tree request) text

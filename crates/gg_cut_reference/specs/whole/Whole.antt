@@ -37,7 +37,7 @@ abbrev pub states_with : Models → State → List BridgeEntry → State
 states_with models state [] = state
 states_with models state (entry ∷ entries) = states_with models (joined_state state (opening (model_of models entry))) entries
 
--- the start of the whole, where the reference circuit starts so and each model with zeros
+-- the start of the whole, where the reference circuit has this start and each model zeros
 abbrev pub plan_begin : Ordered → Request → Models → Start → Start
 plan_begin design request models start = record { cycle = start.cycle; state = states_with models start.state request.bridges; ratios = start.ratios }
 
@@ -48,7 +48,7 @@ pub record HasFreeFronts (circuit : FlatCircuit) : Type 0 where
   pub pipe : (s : ℕ) (path : List ℕ) → s < length circuit.signals → path_at circuit.paths s ≢ codes "pipe:" ++ path
   pub bridge : (s : ℕ) (path : List ℕ) → s < length circuit.signals → path_at circuit.paths s ≢ codes "bridge:" ++ path
 
--- A design that keeps to its tree, a request that has no fault for it, and models that may be those of its bridges.
+-- A design that keeps to its tree, a request that has no fault for it, and models that may be its bridges' models.
 pub record CanBridge (design : Ordered) (request : Request) (models : Models) : Type 0 where
   pub design_is : IsDesign design
   pub keeps : KeepsToTree design.circuit design.tree

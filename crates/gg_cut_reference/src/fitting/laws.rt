@@ -21,12 +21,12 @@ pub fn seats_known()
     ensures { (b : Bridges) (m : ℕ) → AreBridges b → m < b.first + b.ins + b.outs → seat_of b m < machine_end b }
 {}
 
-/// A machine whose place no bridge takes shares its number with no other.
+/// A machine shares its number with no other, if no bridge takes its place.
 pub fn seats_apart()
     ensures { (b : Bridges) (m n : ℕ) → AreBridges b → m < b.first + b.ins + b.outs → n < b.first + b.ins + b.outs → IsKept b m → seat_of b m ≡ seat_of b n → m ≡ n }
 {}
 
-/// A machine whose place no bridge takes keeps its channels.
+/// A machine keeps its channels, if no bridge takes its place.
 pub fn channels_kept()
     ensures into { ChannelsToAreKept }
     ensures from { ChannelsFromAreKept }
@@ -59,8 +59,8 @@ pub fn bridges_known()
     ensures { (circuit : FlatCircuit) (outputs : ℕ) (listed : Listed) (entries : List BridgeEntry) → AreBridges (bridges_of circuit outputs listed entries) }
 {}
 
-/// Counts and places of the ports that no bridge has. The top's first out-signals, as many as there are without the stops, are its
-/// outputs. What stands behind some ports that are kept is found again by their number.
+/// Counts and places of the ports that no bridge has. The top's out-signals are its outputs, followed by its stops. An out-signal that no bridge sees
+/// is found again by its place.
 pub fn open_ports()
     ensures ins { (circuit : FlatCircuit) (tree : InstanceTree) (request : Request) → count_below (undriven (plan_bridges circuit tree request)) (length circuit.ins) ≡ length (open_ins circuit request) }
     ensures outs { UnseenAreCounted }
@@ -73,16 +73,15 @@ pub fn open_ports()
     ensures found { (keeps : ℕ → Bool) (n k : ℕ) → k < count_below keeps n → (p : ℕ) × (p < n) × (keeps p ≡ true) × (count_below keeps p ≡ k) }
 {}
 
-/// There is a name for each machine of the plan. A machine whose place no bridge takes keeps its name, and those of the bridges are
-/// behind them.
+/// There is a name for each machine of the plan. A machine keeps its name if no bridge takes its place, and the bridges' names come after all others.
 pub fn names_kept()
     ensures total { (design : Ordered) (request : Request) → length (machine_names design request (listed_of design.tree request)) ≡ machine_end (plan_bridges design.circuit design.tree request) }
     ensures kept { NamesAreKept }
     ensures bridge { BridgesAreNamed }
 {}
 
-/// The bridge that drives an input lists its path, and so does the one that sees an output. Where no port is listed twice, the entry
-/// that lists a path is the one.
+/// The bridge that drives an input, or sees an output, lists its path. Where no port is listed twice, the bridge of the entry that lists a path is
+/// that bridge.
 pub fn bridge_ports()
     ensures drives { DriversListTheirInputs }
     ensures driver { ListedInputsAreDriven }

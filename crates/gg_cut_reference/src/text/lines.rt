@@ -57,7 +57,7 @@ fn line_front(
     Ok(line)
 }
 
-// The word that tells a channel with a pipe.
+// The word on the line of a channel with a pipe.
 fn pipe_text(pipe: bool) -> &'static str
     ensures { result.now ≡ pipe_text pipe }
 {

@@ -20,7 +20,7 @@ fn spaced(alloc: Global, channels: &[Channel], needs: &[u32]) -> Result<String, 
     Ok(text)
 }
 
-// What a channel needs.
+// The names of needed channels, each after a blank; ` -` if none is needed.
 pub(crate) fn needs_text(
     alloc: Global,
     channels: &[Channel],

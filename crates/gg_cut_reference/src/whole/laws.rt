@@ -17,8 +17,8 @@ pub fn circuit_is_formed()
     ensures ordered { (design : Ordered) (request : Request) (models : Models) → CanBridge design request models → HasOrder (plan_circuit design request models) }
 {}
 
-/// Its inputs are those that no bridge drives. Its out-signals are what trays keep: of the outputs that no bridge sees, and of the stops. It
-/// has the clocks of the design.
+/// The inputs of the circuit with the bridges' models are the inputs that no bridge drives. Its out-signals are what trays keep: of the outputs that
+/// no bridge sees, and of the stops. It has the clocks of the design.
 pub fn circuit_has_ports()
     ensures ins { (design : Ordered) (request : Request) (models : Models) → CanBridge design request models → (plan_circuit design request models).ins ≡ open_ins design.circuit request }
     ensures outs { OutsAreKept }
@@ -31,7 +31,7 @@ pub fn circuit_runs()
     ensures { WholeRunsItsParts }
 {}
 
-/// The bridges of a request can stand at their ports, one after another.
+/// The bridges of a request can be at their ports, one after another.
 pub fn bridges_stand()
     ensures { (design : Ordered) (request : Request) (models : Models) → CanBridge design request models → CanStandAll models (plan_reference design request) request.bridges }
 {}
@@ -41,7 +41,7 @@ pub fn zeros_stay()
     ensures { ZerosStay }
 {}
 
-/// The state in which the whole starts is one that it can be in, if the reference circuit's is one.
+/// The whole starts in a state that it can be in, if the reference circuit does.
 pub fn starts_are_typed()
     ensures { StartsAreTyped }
 {}

@@ -30,10 +30,10 @@ pub record CanRoute (circuit : FlatCircuit) (tree : InstanceTree) (order : List 
   pub once : AllPairs (λ v w. v.signal ≢ w.signal) (wires_of circuit tree listed)
   -- machines of the cut are at the ends of each channel
   pub ends : All (AreEnds (machine_count circuit listed)) (wires_of circuit tree listed)
-  -- the hub's signals are just those that it makes or takes
+  -- the hub's signals are just the signals that it makes or takes
   pub signals : (s : ℕ) → Contains globals s ↔ (Makes circuit tree listed (wires_of circuit tree listed) 0 s ⊎ Takes (wires_of circuit tree listed) 0 s)
   pub banks : (k : ℕ) → Contains memories k ↔ HasMemory tree listed 0 k
-  -- they make a part, which gets what the hub's in-channels carry, and gives what its out-channels carry
+  -- they make a part; it gets what the hub's in-channels carry, and gives what its out-channels carry
   pub choice : IsChoice circuit globals (signals_of (wires_of circuit tree listed) (channels_to (wires_of circuit tree listed) 0)) (givens_of (wires_of circuit tree listed) (channels_from (wires_of circuit tree listed) 0)) memories
 
 -- the marks are on the signals that leave the plan, and on no other signals of the circuit

@@ -27,7 +27,7 @@ ChannelsAreRouted =
     (design : Ordered) (listed : Listed) (piped driven : ℕ → Bool) (direct : Bool)
     -- The design keeps to its tree, and what is listed is apart.
     → IsDesign design → KeepsToTree design.circuit design.tree → AreApart design.tree listed
-    -- Its routed channels are good, whatever is piped, driven or direct.
+    -- The cut's routed channels are good, whatever is piped, driven or direct.
     → AreRoutes design listed (hub_of design.circuit design.tree listed piped driven direct)
 
 -- The channels of the plan of a request make parts of the circuit.
@@ -36,7 +36,7 @@ PlansAreRouted =
     (design : Ordered) (request : Request)
     -- The design keeps to its tree, and the request has no fault.
     → IsDesign design → KeepsToTree design.circuit design.tree → first_fault design request ≡ None
-    -- The routed channels of its cut are good.
+    -- The routed channels of the request's cut are good.
     → AreRoutes design (listed_of design.tree request) (plan_hub design.circuit design.tree request)
 
 -- A plan has at most 33,025 machines.
@@ -56,7 +56,7 @@ MachinesAreFew =
 abbrev pub HasRouted : Ordered → Listed → Hub → ℕ → (globals memories : List ℕ) → Type 0
 HasRouted design listed hub m globals memories = IsPlanShare design listed hub m (channels_to (routes hub) m) (channels_from (routes hub) m) globals memories
 
--- Of the hub's signals those stay that aren't gone and whose channels don't pass the hub.
+-- A signal of the hub stays if it isn't gone and its channel doesn't pass the hub.
 abbrev pub HubIsRouted : Type 0
 HubIsRouted =
     (design : Ordered) (listed : Listed) (piped driven : ℕ → Bool) (direct : Bool) (gone : List Bool) (ins outs globals memories : List ℕ)
@@ -67,7 +67,7 @@ HubIsRouted =
     → MarksGone (hub_of design.circuit design.tree listed piped driven direct) gone
     -- Before the routing, the hub has these signals and memories.
     → IsShareOf design listed (wires_of design.circuit design.tree listed) 0 ins outs globals memories
-    -- Behind it, the hub has those of the signals that stay, and all the memories.
+    -- After the routing, the hub has its signals that stay, and all the memories.
     → HasRouted design listed (hub_of design.circuit design.tree listed piped driven direct) 0
     (filter (stays_by (routes (hub_of design.circuit design.tree listed piped driven direct)) gone) globals) memories
 
@@ -80,7 +80,7 @@ OthersAreRouted =
     → AreRoutes design listed (hub_of design.circuit design.tree listed piped driven direct)
     -- The machine isn't the hub, and has these signals and memories before the routing.
     → m ≢ 0 → IsShareOf design listed (wires_of design.circuit design.tree listed) m ins outs globals memories
-    -- It has them behind it too.
+    -- It has them after the routing too.
     → HasRouted design listed (hub_of design.circuit design.tree listed piped driven direct) m globals memories
 
 -- Another machine than the hub takes what it took before, in the same order.
@@ -92,7 +92,7 @@ OthersTakeTheSame =
     -- The routed channels to the machine carry the signals that it took before.
     → signals_of (routes (hub_of design.circuit design.tree listed piped driven direct)) (channels_to (routes (hub_of design.circuit design.tree listed piped driven direct)) m) ≡ ins_in_cut design listed m
 
--- Another machine than the hub gives by the signals by which it gave before.
+-- Another machine than the hub gives by the same signals as before.
 abbrev pub OthersGiveTheSame : Type 0
 OthersGiveTheSame =
     (design : Ordered) (listed : Listed) (piped driven : ℕ → Bool) (direct : Bool) (m s : ℕ)

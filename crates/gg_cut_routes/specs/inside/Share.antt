@@ -13,9 +13,8 @@ use Rattle.gg_cut_plan.specs.Machines.{first_source}
 use Rattle.gg_cut_plan.specs.Direct.{Hub, routes}
 use Rattle.gg_cut_plan.specs.Plan.{channels_to, channels_from, signals_of, givens_of, MakesBy, Takes, HasMemory}
 
--- What machine m has: the channels that it takes and those that it gives, in order; exactly the signals that it makes or takes,
--- along the order of evaluation; and exactly the memories that belong to it, ascending. If m is the hub, a unit or a memory, these
--- make a part.
+-- What machine m has: the channels that it takes and the channels that it gives, in order; exactly the signals that it makes or takes, along the
+-- order of evaluation; and exactly the memories that belong to it, ascending. If m is the hub, a unit or a memory, these make a part.
 pub record IsPlanShare (design : Ordered) (listed : Listed) (hub : Hub) (m : ℕ) (ins outs globals memories : List ℕ) : Type 0 where
   pub takes : ins ≡ channels_to (routes hub) m
   pub gives : outs ≡ channels_from (routes hub) m

@@ -1,4 +1,4 @@
--- Tables by signal, from which the routed channels are found in a few passes.
+-- Tables by signal. From them the routed channels are found in a few passes.
 -- Source: this program's own way to find them.
 use Rattle.std.specs.Prelude.{◌≡◌, ℕ, ◌<◌, ◌++◌, List, Bool, true, false, not, ◌&&◌, ◌||◌, ◌==◌, if◌then◌else◌, Option, Some, None, Contains, length, map, filter, flat_map, is_some, option_and_then, slice_index_or}
 use Rattle.std.specs.List.{list_any}
@@ -48,25 +48,25 @@ IsSide wires globals s Own = (list_any (λ t. s == t) globals ≡ true) × (list
 IsSide wires globals s Out = IsFromHub wires s
 IsSide wires globals s (In producer) = IsCarried wires s producer 0
 
--- the table says of each signal what it is to the hub
+-- the table has what each signal is to the hub
 abbrev pub AreSides : List Wire → List ℕ → List Side → Type 0
 AreSides wires globals sides = (s : ℕ) → IsSide wires globals s (side_at sides s)
 
--- whether the hub takes such a signal
+-- whether the hub takes a signal of this side
 abbrev pub is_in : Side → Bool
 is_in Other = false
 is_in Own = false
 is_in Out = false
 is_in (In producer) = true
 
--- whether the hub makes such a signal, and no channel carries it
+-- whether the hub makes a signal of this side, and no channel carries it
 abbrev pub is_inner : Side → Bool
 is_inner Other = false
 is_inner Own = true
 is_inner Out = false
 is_inner (In producer) = false
 
--- whether the hub makes such a signal
+-- whether the hub makes a signal of this side
 abbrev pub is_makers : Side → Bool
 is_makers Other = false
 is_makers Own = true
@@ -89,7 +89,7 @@ AreKnown count table = (s x : ℕ) → entry_at table s ≡ Some x → x < count
 abbrev pub origin_beyond : FlatCircuit → List (Option ℕ) → ℕ → Option ℕ
 origin_beyond circuit origins s = option_and_then (entry_at origins) (copied circuit s)
 
--- the origin of a signal, from those of the signals before it; an in-channel that is barred is none
+-- the origin of a signal, from the origins of the signals before it; an in-channel that is barred is none
 abbrev pub origin_by : Side → Bool → ℕ → Option ℕ → Option ℕ
 origin_by Other barred s beyond = None
 origin_by Own barred s beyond = beyond
@@ -105,7 +105,7 @@ pub record IsSeen (hub : Hub) (circuit : FlatCircuit) (sides : List Side) (marks
   pub is : hub.circuit ≡ circuit
   pub taken : (s : ℕ) → is_taken hub s ≡ is_in (side_at sides s)
   pub own : (s : ℕ) → s < length circuit.signals → is_own hub s ≡ is_inner (side_at sides s)
-  -- the marks are on the signals whose channels are piped, and on those that a bridge drives
+  -- the marks are on the signals of piped channels, and on the signals that a bridge drives
   pub barred : (s : ℕ) → (hub.piped s || hub.driven s) ≡ is_marked marks s
 
 -- ---- direct channels
@@ -128,7 +128,7 @@ abbrev pub direct_by : FlatCircuit → Listed → List Side → List (Option ℕ
 direct_by circuit listed sides origins named direct w =
     if (direct && (w.producer == 0)) && not (is_marked named w.signal) then if_given listed sides (origin_beyond circuit origins w.signal) else None
 
--- the table has for the signal of each channel what f says of the channel, and none for the other signals
+-- the table has f w for the signal of each channel w, and none for the other signals
 pub record AreEntries (f : Wire → Option ℕ) (wires : List Wire) (table : List (Option ℕ)) : Type 0 where
   pub each : (w : Wire) → Contains wires w → entry_at table w.signal ≡ f w
   pub rest : (s : ℕ) → list_any (λ w. w.signal == s) wires ≡ false → entry_at table s ≡ None
@@ -139,7 +139,7 @@ pub record AreEntries (f : Wire → Option ℕ) (wires : List Wire) (table : Lis
 abbrev pub is_kept : Side → Option ℕ → Option ℕ → Bool
 is_kept side origin direct = not (is_inner side && is_some origin) && not (is_some direct)
 
--- the origin is that of a direct channel, and isn't needed
+-- the origin is a direct channel's, and isn't needed
 abbrev pub is_left : List Bool → List Bool → Option ℕ → Bool
 is_left left needed None = false
 is_left left needed (Some x) = is_marked left x && not (is_marked needed x)

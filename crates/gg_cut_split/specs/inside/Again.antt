@@ -32,7 +32,7 @@ cut_wires design listed = wires_of design.circuit design.tree listed
 abbrev pub HasSignal : Ordered → Listed → ℕ → ℕ → Type 0
 HasSignal design listed m s = Makes design.circuit design.tree listed (cut_wires design listed) m s ⊎ Takes (cut_wires design listed) m s
 
--- the number for unit n of what has number s for unit m
+-- the number in unit n of what has number s in unit m
 abbrev pub again_at : Ordered → Listed → ℕ → ℕ → ℕ → ℕ
 again_at design listed m n s = shifted (unit_first design.tree listed m) (unit_first design.tree listed n) s
 
@@ -40,10 +40,10 @@ again_at design listed m n s = shifted (unit_first design.tree listed m) (unit_f
 abbrev pub AreHomes : Listed → (ℕ → Bool) → Type 0
 AreHomes listed is_home = (k : ℕ) → is_home k ≡ list_any (λ unit. k == unit) listed.units
 
--- Unit n has what unit m has, with numbers as far behind the first of its own signals: the same signals, taken by channels in the same
--- order, with the same types and, but for those that it takes, the same drivers; the same registers and memories, but for the clocks that
--- they follow in the circuit: inside of the two units they follow the same Clock inputs, of which both have as many. Two lists of the memories of the two, both
--- ascending, have them in the same order.
+-- Unit n has what unit m has, with numbers equally far after the first of its own signals: the same signals, taken by channels in the same order,
+-- with the same types and, except for the signals that it takes, the same drivers; the same registers and memories, except for the clocks that they
+-- follow in the circuit. Inside of the two units these follow the same Clock inputs, and both units have equally many. Ascending lists of the
+-- memories of the two units have them in the same order.
 pub record IsUnitAgain (design : Ordered) (listed : Listed) (m n : ℕ) : Type 0 where
   pub registers : ℕ → ℕ
   pub memories : ℕ → ℕ

@@ -29,6 +29,6 @@ pub record AreEnds (count : ℕ) (w : Wire) : Type 0 where
   pub consumer : w.consumer < count
   pub apart : w.producer ≢ w.consumer
 
--- the machine that a channel's signal belongs to is at one of the channel's ends
+-- the owner of a channel's signal is at one of the channel's ends
 abbrev pub IsOwnerAtEnd : FlatCircuit → InstanceTree → Listed → Wire → Type 0
 IsOwnerAtEnd circuit tree listed w = (w.producer ≡ owner_of circuit tree listed w.signal) ⊎ (w.consumer ≡ owner_of circuit tree listed w.signal)

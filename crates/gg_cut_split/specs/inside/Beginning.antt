@@ -18,8 +18,8 @@ IsWhole whole = CanSplit whole.piece.now whole.tree.now whole.order.now whole.li
 abbrev pub ordered_of : Whole → Ordered
 ordered_of whole = record { circuit = whole.piece.now; tree = whole.tree.now; order = whole.order.now }
 
--- The numbers of the machines, of which there are fewer than 2^32, the machine of each instance, that of each signal by its instance, and
--- the channels.
+-- The numbers of the machines (there are fewer than 2^32), the machine of each instance, the machine of each signal by its instance, and the
+-- channels.
 pub record IsBeginning (whole : Whole) (beginning : Beginning) : Type 0 where
   pub numbers : beginning.numbering ≡ numbering_of whole.piece.now whole.listed.now
   pub few : machine_count whole.piece.now whole.listed.now < 2 ^ 32

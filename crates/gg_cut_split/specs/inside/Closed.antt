@@ -30,11 +30,11 @@ HasInCut design listed m s = MakesInCut design listed m s ⊎ Takes (wires_of de
 abbrev pub ins_in_cut : Ordered → Listed → ℕ → List ℕ
 ins_in_cut design listed m = signals_of (wires_of design.circuit design.tree listed) (channels_to (wires_of design.circuit design.tree listed) m)
 
--- the signals by which machine m of a cut gives, in the order of its channels
+-- the signals that give the channels of machine m of a cut their values, in the order of its channels
 abbrev pub outs_in_cut : Ordered → Listed → ℕ → List ℕ
 outs_in_cut design listed m = givens_of (wires_of design.circuit design.tree listed) (channels_from (wires_of design.circuit design.tree listed) m)
 
--- ---- what holds of it
+-- ---- what holds of a machine
 
 -- A machine has all that the drivers of its signals name.
 abbrev pub DriversNameWithin : Type 0
@@ -70,9 +70,10 @@ MachinesMakeParts =
     → IsDesign design → KeepsToTree design.circuit design.tree → AreApart design.tree listed
     -- The machine is the hub, a unit or a memory.
     → m < first_source listed
-    -- The list of signals has exactly those of the machine, each once.
+    -- The list of signals has exactly the machine's signals, each once.
     → ((s : ℕ) → Contains globals s ↔ HasInCut design listed m s) → AllPairs (λ a b. a ≢ b) globals
-    -- The list of memories has exactly those of the machine, each once.
+    -- The list of memories has exactly the machine's memories, each once.
     → ((k : ℕ) → Contains memories k ↔ HasMemory design.tree listed m k) → AllPairs (λ a b. a ≢ b) memories
-    -- These make a part, whose in-signals the machine takes and whose out-signals it gives.
+    -- These make a part. Its in-signals are the signals that the machine takes, its out-signals the signals that it
+    -- gives.
     → IsChoice design.circuit globals (ins_in_cut design listed m) (outs_in_cut design listed m) memories

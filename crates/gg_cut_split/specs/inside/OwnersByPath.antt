@@ -48,7 +48,7 @@ MemoriesBelongByPath =
 abbrev pub MachinesHaveListedNames : Type 0
 MachinesHaveListedNames =
     (design : Ordered) (request : Request) (k : ℕ)
-    -- The design keeps to its tree, and the path is one of those that the request lists.
+    -- The design keeps to its tree, and the request lists the path at place k.
     → IsDesign design → KeepsToTree design.circuit design.tree → k < length (listed_paths design.tree request)
-    -- The machine behind the hub at the path's place has the path as its name.
+    -- The machine at the path's place after the hub has the path as its name.
     → path_at (cut_names design request (listed_of design.tree request)) (k + 1) ≡ path_at (listed_paths design.tree request) k

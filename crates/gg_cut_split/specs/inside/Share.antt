@@ -11,9 +11,8 @@ use Rattle.gg_cut_plan.specs.Machines.{first_source}
 use Rattle.gg_cut_plan.specs.Plan.{channels_to, channels_from, signals_of, givens_of, Takes, HasMemory}
 use Rattle.gg_cut_plan.specs.inside.Plan.{Makes}
 
--- What machine m has: the channels that it takes and those that it gives, in order; exactly the signals that it makes
--- or takes, along the order of evaluation; and exactly the memories that belong to it, ascending. If m is the hub, a unit or a
--- memory, these make a part.
+-- What machine m has: the channels that it takes and the channels that it gives, in order; exactly the signals that it makes or takes, along the
+-- order of evaluation; and exactly the memories that belong to it, ascending. If m is the hub, a unit or a memory, these make a part.
 pub record IsShareOf (design : Ordered) (listed : Listed) (wires : List Wire) (m : ℕ) (ins outs globals memories : List ℕ) : Type 0 where
   pub takes : ins ≡ channels_to wires m
   pub gives : outs ≡ channels_from wires m

@@ -1,4 +1,4 @@
--- The tables from which it is computed what machines have, and the lists that are filled by them.
+-- The tables that say what machines have, and the lists that are filled by them.
 -- Source: this program's own way to give each machine its signals in one pass.
 use Rattle.std.specs.Prelude.{◌≡◌, ◌↔◌, ◌⊎◌, ℕ, zero, suc, ◌<◌, List, [], ◌∷◌, ◌++◌, Bool, true, false, if◌then◌else◌, ◌||◌, ◌==◌, Option, Some, None, Contains, AllPairs, length, map, filter, slice_index_or}
 use Rattle.std.specs.List.{range_with_len}
@@ -12,7 +12,7 @@ use Rattle.gg_cut_plan.specs.Channels.{wire, wires_of}
 use Rattle.gg_cut_plan.specs.Plan.{wire_at, Takes, HasMemory}
 use Rattle.gg_cut_plan.specs.inside.Plan.{Makes}
 
--- one list for each machine; that of machine m is f m
+-- one list for each machine: f m for machine m
 pub record AreLists (f : ℕ → List ℕ) (count : ℕ) (lists : List (List ℕ)) : Type 0 where
   pub many : length lists ≡ count
   pub each : (m : ℕ) → m < count → slice_index_or lists m [] ≡ f m
@@ -50,7 +50,7 @@ abbrev pub has_by : List Wire → ℕ → ℕ → Option ℕ → Bool
 has_by wires owner m None = owner == m
 has_by wires owner m (Some c) = ((wire_at wires c).producer == m) || ((wire_at wires c).consumer == m)
 
--- the same, from tables of owners and of channels
+-- whether machine m has signal s, from tables of owners and of channels
 abbrev pub has : List Wire → List ℕ → List (Option ℕ) → ℕ → ℕ → Bool
 has wires owners channels m s = has_by wires (value_at owners s) m (slice_index_or channels s None)
 

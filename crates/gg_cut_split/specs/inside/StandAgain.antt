@@ -1,4 +1,4 @@
--- Units of one host stand for each other.
+-- Units of one host have the same, with other numbers.
 -- Source: ICCAD 2019 (duplicate instances that share one host unit).
 use Rattle.std.specs.Prelude.{◌≡◌, ◌≢◌, ℕ, ◌<◌, None}
 use Rattle.gg_part.specs.KeepsToTree.{KeepsToTree}

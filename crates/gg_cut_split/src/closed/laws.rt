@@ -19,10 +19,9 @@ pub fn listed_apart()
     ensures few { (design : Ordered) (request : Request) → first_fault design request ≡ None → AreFew design.circuit design.tree request }
 {}
 
-/// Let a request have no fault. The machine that a signal belongs to is that of the longest listed path that holds
-/// the signal's path. The machine that an instance or a memory belongs to is that of the longest listed path that is
-/// its path or holds it. If there is no such path, it is the hub. In each case exactly one machine fits. The machine
-/// of a listed path has that path as its name.
+/// Let a request have no fault. A signal belongs to the machine of the longest listed path that holds the signal's path. An instance or a memory
+/// belongs to the machine of the longest listed path that is its path or holds it. If there is no such path, it is the hub. In each case exactly one
+/// machine fits. The machine of a listed path has that path as its name.
 pub fn owner_by_path()
     ensures signals { SignalsBelongByPath }
     ensures instances { InstancesBelongByPath }
@@ -30,9 +29,8 @@ pub fn owner_by_path()
     ensures names { MachinesHaveListedNames }
 {}
 
-/// If what is listed is apart, each channel has the machine that its signal belongs to at one of its ends. A port of
-/// a unit or a field of a listed memory belongs to the unit or the memory, regardless of which end gives its value. A
-/// port of the top belongs to the hub.
+/// If what is listed is apart, each channel has the owner of its signal at one of its ends. A port of a unit or a field of a listed memory belongs to
+/// the unit or the memory, whichever end gives its value. A port of the top belongs to the hub.
 pub fn owner_at_end()
     ensures { OwnersAreAtEnds }
 {}
@@ -51,9 +49,9 @@ pub fn machine_closed()
     ensures registers { RegistersNameWithin }
 {}
 
-/// If what is listed is apart, the hub, a unit and a memory each make a part of the circuit. The part has exactly the
-/// signals that the machine makes or takes, each once, and exactly the memories that belong to it, each once. Its
-/// in-signals are those of the channels that the machine takes, its out-signals those of the channels that it gives.
+/// If what is listed is apart, the hub, a unit and a memory each make a part of the circuit. The part has exactly the signals that the machine makes
+/// or takes, each once, and exactly the memories that belong to it, each once. Its in-signals are the signals of the channels that the machine takes,
+/// its out-signals the signals of the channels that it gives.
 pub fn machine_makes_part()
     ensures { MachinesMakeParts }
 {}

@@ -57,7 +57,7 @@ pub record IsSoFar (bindings : Bindings) (xs : List FlatSignal) (flat : FlatCirc
   pub no_ins : flat.ins ≡ []
   pub no_outs : flat.outs ≡ []
 
--- the same, in the circuit of a site
+-- `IsSoFar` in the circuit of a site
 abbrev pub IsSoFarAt : Site → List FlatSignal → FlatCircuit → ℕ → Type 0
 IsSoFarAt site = IsSoFar (table_bindings (types_of site.typed.now.circuit) site.table.now)
 
@@ -65,7 +65,7 @@ IsSoFarAt site = IsSoFar (table_bindings (types_of site.typed.now.circuit) site.
 abbrev pub memory_of : Site → OwnMemory → FlatMemory
 memory_of site own = flat_memory site.typed.now.circuit.modules (site_of site.place.now) (own_bank_of own)
 
--- These memories, and nothing else, were added to a flat circuit.
+-- Only these memories were added to a flat circuit.
 pub record HasMemories (paths : List (List ℕ)) (said : List FlatMemory) (old new : FlatCircuit) : Type 0 where
   pub rest : new ≡ record old { memories = new.memories }
   pub count : length new.memories ≡ length said

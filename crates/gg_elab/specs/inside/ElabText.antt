@@ -1,4 +1,4 @@
--- More on ElabText: what no promise of the program's speaks of.
+-- More on ElabText: what no promise of the program reaches.
 -- Source: this program's own, as the limits are.
 use Rattle.std.specs.Prelude.{ℕ, List, codes}
 use Rattle.gg_shape.specs.declared.fault.Fault.TheVariants.{OverLimit}

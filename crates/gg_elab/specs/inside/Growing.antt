@@ -16,7 +16,7 @@ use Rattle.gg_elab_sites.specs.Lines.{laid, with_term}
 use Rattle.gg_elab_sites.specs.Meaning.{Context, in_scope, term_shape, term_value, TermNames}
 use Rattle.gg_elab_sites.specs.inside.Views.{table_bindings}
 
--- where an expression is written, with what its names stand for
+-- where an expression is written, with the meaning of its names
 abbrev pub context_of : kept.Scope → Context
 context_of s = in_scope (table_bindings (types_of s.typed.now.circuit) s.table.now) (record { path = s.path.now; number = s.number })
 
@@ -42,14 +42,14 @@ pub record IsPlaced (IsIt : Node → Type 0) (old new : List Node) (stand : Stan
 abbrev pub HaveShapes : Context → List Node → Type 0
 HaveShapes w nodes = (k : ℕ) → k < length nodes → HasShape (HasType w.bindings.signals.shapes) (shapes_of nodes) k (shape_at (shapes_of nodes) k) (op_at nodes k)
 
--- Node k stands for an expression, regardless of the nodes that follow.
+-- Node k computes an expression, regardless of the nodes that follow.
 pub record StandsFor (w : Context) (nodes : List Node) (k : ℕ) (e : Term) : Type 0 where
   pub within : k < length nodes
   pub node : shape_at (shapes_of nodes) k ≡ term_shape w e
   pub value : (values : List ℕ) (more : List Shape) → value_at (node_values values (shapes_of nodes ++ more) nodes) k ≡ term_value w values e
   pub named : (s : ℕ) → TermNames w s e → Names nodes s
 
--- The nodes of an expression were added to `old`. The last of them, node k, stands for it.
+-- The nodes of an expression were added to `old`. The last of them, node k, computes it.
 pub record Added (w : Context) (old new : List Node) (e : Term) (k : ℕ) : Type 0 where
   pub stands : StandsFor w new k e
   pub last : length new ≡ k + 1
@@ -67,7 +67,7 @@ pub record IsZeroOf (old new : List Node) (sink : Shape) : Type 0 where
   pub zero : node.op ≡ Literal (record { 0 = 0 })
   pub added : new ≡ old ++ node ∷ []
 
--- The line if its value can be taken, else the line with a 0 at the end.
+-- The line if its value can be taken, otherwise the line with a 0 at the end.
 abbrev pub IsCut : Bool → List Node → Shape → List Node → Type 0
 IsCut true line sink new = new ≡ line
 IsCut false line sink new = IsZeroOf line new sink

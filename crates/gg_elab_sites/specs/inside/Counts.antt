@@ -1,4 +1,4 @@
--- More on Counts: what no promise of the program's speaks of.
+-- More on Counts: what no promise of the program reaches.
 -- Source: FIRRTL Specification, "Instances", "Memories" (depth). The limits are this program's. A count saturates at
 -- 2^64 - 1.
 use Rattle.std.specs.Prelude.{ℕ, suc, ◌-◌, ◌^◌, List, [], ◌∷◌, Option, None, length, nat_lt, is_some, if◌then◌else◌}
@@ -9,11 +9,11 @@ use Rattle.gg_elab_sites.specs.Counts.{deep_in}
 
 -- ---- which module has the first memory that is too deep
 
--- the place of a module if it has a memory that is too deep, else a number that isn't a place
+-- the place of a module if it has a memory that is too deep, otherwise a number that isn't a place
 abbrev pub deep_place : ℕ → List Stmt → ℕ
 deep_place k statements = if is_some (deep_in statements) then k else 2 ^ 64 - 1
 
--- the same for the modules from place k on
+-- `deep_place` for each of these modules; the first is at place k
 abbrev pub deep_places : ℕ → List ModuleTree → List ℕ
 deep_places k [] = []
 deep_places k (m ∷ ms) = deep_place k m.statements ∷ deep_places (suc k) ms

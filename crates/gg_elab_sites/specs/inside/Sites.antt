@@ -1,4 +1,4 @@
--- More on Sites: what no promise of the program's speaks of.
+-- More on Sites: what no promise of the program reaches.
 -- Source: FIRRTL Specification, "Circuits and Modules" (the module of the circuit's name is the top), "Instances".
 use Rattle.std.specs.Prelude.{ℕ, List, map, Contains}
 use Rattle.gg_ast.specs.Tree.{ModuleTree}

@@ -79,7 +79,7 @@ pub record IsAbove (place : Place) (above : Above) : Type 0 where
   pub steps : map step_of above.steps.items ≡ map step_of place.steps.items
   pub clocks : above.clocks.items ≡ place.clocks.items
 
--- The module of a site, and that of what holds it, are among these modules, and its Clock inputs follow what they do.
+-- The modules of a site and of what holds it are among these modules. The Clock inputs and the clocks that are kept are the site's.
 pub record IsPlaceIn (modules : List ModuleTree) (place : Place) : Type 0 where
   pub own : place.number < length modules
   pub around : IfSome place.outer (λ a. a.number < length modules)
@@ -93,7 +93,7 @@ abbrev pub connection : Source → Connection
 connection (Of e) = ConnectedTo e.now
 connection Zero = Zeroed
 
--- the same of a sink that may have no connection
+-- `connection` for a sink that may have no connection
 abbrev pub seen : Option Source → Option Connection
 seen None = None
 seen (Some source) = Some (connection source)
@@ -109,8 +109,8 @@ TellsConnections statements names sources = (name : List ℕ) → source_at sour
 
 -- ---- modules
 
--- What is kept of the module at a place: its signals, the instances that it holds, its memories, its stops, of which there
--- are fewer than 2^32, and its connections.
+-- What is kept of the module at a place: its signals, the instances that it holds, its memories, its stops, fewer than 2^32, and its
+-- connections.
 pub record IsDigest (types : Types) (modules : List ModuleTree) (k : ℕ) (digest : Digest) : Type 0 where
   pub signals : map own_of digest.signals.items ≡ own_signals types k (count.module_at modules k)
   pub instances : map held_of digest.instances.items ≡ count.held_at modules k
@@ -120,17 +120,17 @@ pub record IsDigest (types : Types) (modules : List ModuleTree) (k : ℕ) (diges
   pub connections : TellsConnections (count.module_at modules k).statements digest.sinks.names digest.sinks.sources.items
   pub sources : length digest.sinks.sources.items ≡ length digest.sinks.names
 
--- the same for each module
+-- `IsDigest` for each module
 pub record AreDigests (types : Types) (modules : List ModuleTree) (digests : List Digest) : Type 0 where
   pub count : length digests ≡ length modules
   pub each : (k : ℕ) (any : Digest) → k < length modules → IsDigest types modules k (slice_index_or digests k any)
 
 -- ---- the table
 
--- the signals of the program's table, and what a circuit's names stand for by it
+-- the paths and the shapes of the signals in the program's table
 abbrev pub table_signals : Table → Signals
 table_signals table = record { paths = table.paths; shapes = map (λ t. shape t) table.types.items }
 
--- what the names stand for, with these types from the checks
+-- the meaning of names by the program's table, with these types from the checks
 abbrev pub table_bindings : Types → Table → Bindings
 table_bindings types table = record { types = types; signals = table_signals table; memories = table.memories }

@@ -17,7 +17,7 @@ FitsDriver shapes sink (MemoryWord memory reader addr en) = Unit {0}
 FitsDriver shapes sink (ReadRegister memory reader) = Unit {0}
 FitsDriver shapes sink (Computed line) = IsSource (HasType shapes) sink line
 
--- the same, and the register, if there is one, takes its lines
+-- `FitsDriver`, and the register, if there is one, takes its lines
 abbrev pub IsFitting : List Shape → Shape → Driver → Option Register → Type 0
 IsFitting shapes sink driver register = FitsDriver shapes sink driver × MatchOption register ⊤ (IsRegister (HasType shapes))
 

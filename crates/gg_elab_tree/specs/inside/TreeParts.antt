@@ -25,7 +25,7 @@ use Rattle.gg_elab_sites.specs.inside.Views.{site_of, own_bank_of, own_stop_of}
 abbrev pub is_signal : Port → Bool
 is_signal port = is_some (type_shape port.ty)
 
--- those of these ports that are signals, in order
+-- the ports among these that are signals, in order
 abbrev pub signals_among : List Port → List Port
 signals_among ports = filter is_signal ports
 
@@ -78,7 +78,7 @@ held_at_place modules place own = held_memory (site_of place) (flat_memory modul
 abbrev pub IsHeldFor : CircuitTree → HeldMemory → MemoryInstance → Type 0
 IsHeldFor circuit h memory = IsMemoryFor circuit h.site h.said memory
 
--- the Clock input of a module that a register follows, of what gives an own signal its value
+-- the Clock input of a module that a register with this cause follows; none for any other cause
 abbrev pub clock_kept : ModuleTree → Cause → List (Option ℕ)
 clock_kept m FromOutside = []
 clock_kept m Connected = []
@@ -102,22 +102,22 @@ IsAskedFor circuit h stop = IsStopFor circuit h.site h.said stop
 
 -- ---- a tree with other parts
 
--- with these instances, and their paths
+-- a tree with these instances, and their paths
 abbrev pub with_instances : InstanceTree → List (List ℕ) → List Instance → InstanceTree
 with_instances tree paths instances = record tree { paths = paths; instances = instances }
 
--- with these memories, and their paths
+-- a tree with these memories, and their paths
 abbrev pub with_memories : InstanceTree → List (List ℕ) → List MemoryInstance → InstanceTree
 with_memories tree paths memories = record tree { memory_paths = paths; memories = memories }
 
--- with these stops
+-- a tree with these stops
 abbrev pub with_stops : InstanceTree → List StopInstance → InstanceTree
 with_stops tree stops = record tree { stops = stops }
 
--- with what the registers follow, in the order of the signals
+-- a tree with what the registers follow, in the order of the signals
 abbrev pub with_register_clocks : InstanceTree → List (Option ℕ) → InstanceTree
 with_register_clocks tree clocks = record tree { register_clocks = clocks }
 
--- with these names of the top's Clock inputs
+-- a tree with these names of the top's Clock inputs
 abbrev pub with_clocks : InstanceTree → List (List ℕ) → InstanceTree
 with_clocks tree clocks = record tree { clocks = clocks }

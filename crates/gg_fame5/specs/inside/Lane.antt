@@ -1,4 +1,4 @@
--- A lane: what one thread of a host has of its own, beside the program and the slots that the threads share.
+-- A lane: what one thread of a host has of its own. The threads share the program and the slots.
 -- Source: FAME-5 (one model of several equal units, with the state of each); MEMOCODE 2009 (a node with a latch for
 -- each input and a flag for each output).
 use Rattle.std.specs.Prelude.{◌≡◌, ◌↔◌, ℕ, suc, ◌+◌, ◌<◌, List, [], ◌∷◌, Option, Some, None, Bool, true, false, IsSome, length, replicate, slice_set}
@@ -15,7 +15,7 @@ use Rattle.gg_program.specs.Right.{InCycle}
 use Rattle.gg_fame5.specs.Machine.{unit_machine}
 use Rattle.gg_fame5.specs.inside.Fork.{out_of, out_count, AreOuts, forked}
 
--- Which outs of the program it has, a ratio for each clock, the cycle that it is in, its state, its latches and its flags.
+-- A lane: which outs of the program it has, a ratio for each clock, the cycle that it is in, its state, its latches and its flags.
 pub record Laned : Type 0 where
   -- the places of the program's outs that the lane gives; all of them where there is no list
   pub outs : Option (List ℕ)
@@ -25,7 +25,7 @@ pub record Laned : Type 0 where
   pub latches : List (Option ℕ)
   pub flags : List Bool
 
--- the machine that a lane stands for: it runs the program, with the lane's cycle, state, latches and flags
+-- the machine of a lane: it runs the program, with the lane's cycle, state, latches and flags
 abbrev pub lane_machine : Programmed → Laned → Machine
 lane_machine program lane = unit_machine (forked program lane.outs) lane.ratios lane.cycle lane.state lane.latches lane.flags
 
@@ -33,7 +33,7 @@ lane_machine program lane = unit_machine (forked program lane.outs) lane.ratios 
 abbrev pub out_signal : FlatCircuit → Laned → ℕ → ℕ
 out_signal circuit lane o = value_at circuit.outs (out_of lane.outs o)
 
--- ---- its steps
+-- ---- the steps of a lane
 
 -- a lane that begins in this state, with this cycle
 abbrev pub started_lane : FlatCircuit → Option (List ℕ) → List Ratio → State → ℕ → Laned
@@ -75,7 +75,7 @@ abbrev pub empty_count : List (Option ℕ) → ℕ
 empty_count [] = 0
 empty_count (latch ∷ latches) = empty_count latches + one_if_empty latch
 
--- ---- what it keeps to
+-- ---- what a lane keeps to
 
 -- A lane belongs to a circuit: it has outs of the circuit, a state, a latch for each in-signal and a flag for each out.
 -- Each token has its in's type.
@@ -90,7 +90,7 @@ pub record IsLane (circuit : FlatCircuit) (lane : Laned) : Type 0 where
 abbrev pub HaveTokens : List (Option ℕ) → List ℕ → Type 0
 HaveTokens latches inputs = (i value : ℕ) → latch_at latches i ≡ Some value → value_at inputs i ≡ value
 
--- exactly the inputs whose latches hold a token were put
+-- exactly the inputs with a token in their latch were put
 abbrev pub ArePut : FlatCircuit → Slotted → List (Option ℕ) → Type 0
 ArePut circuit slots latches = (i : ℕ) → i < length circuit.ins → HasInput circuit slots i ↔ IsSome (latch_at latches i)
 

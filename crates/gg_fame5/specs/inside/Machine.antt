@@ -1,4 +1,4 @@
--- More on Machine: what no promise of the program's speaks of.
+-- More on Machine: what no promise of the program reaches.
 -- Source: MEMOCODE 2009 (a node with a latch for each input and a flag for each output); ICCAD 2019 (units of a target
 -- that advance when their tokens allow it).
 use Rattle.std.specs.Prelude.{List}

@@ -16,7 +16,7 @@ use Rattle.gg_fame5.specs.Machine.{started_unit}
 use Rattle.gg_fame5.specs.inside.Fork.{forked}
 use Rattle.gg_fame5.specs.inside.Lane.{Laned, lane_machine, started_lane, out_signal, IsLane, Hold}
 
--- a program, a lane for each thread, the thread whose turn it is, and the slots
+-- a program, a lane for each thread, the thread that has the turn, and the slots
 pub record Sharing : Type 0 where
   pub program : Programmed
   pub lanes : List Laned
@@ -36,14 +36,14 @@ abbrev pub machines_of : Sharing → List Machine
 machines_of shared = map (lane_machine shared.program) shared.lanes
 
 -- There are threads, fewer than 2^32. The lane of each belongs to the circuit. The slots hold the lane of the thread
--- whose turn it is.
+-- that has the turn.
 pub record IsSharing (circuit : FlatCircuit) (lanes : List Laned) (turn : ℕ) (slots : Slotted) : Type 0 where
   pub some : turn < length lanes
   pub few : length lanes < 2 ^ 32
   pub each : All (IsLane circuit) lanes
   pub held : Hold circuit slots (lane_at lanes turn)
 
--- ---- how they begin
+-- ---- how threads begin
 
 -- lanes that begin in these states, with this cycle: each has its own list of outs and its own list of ratios
 abbrev pub started_lanes : FlatCircuit → List (List ℕ) → List (List Ratio) → List State → ℕ → List Laned
@@ -59,11 +59,11 @@ opening_machines program outs ratios = started_machines program outs ratios (rep
 
 -- ---- what has still to be evaluated
 
--- the number of signals that have to be evaluated for a thread: all assignments, unless it is its turn
+-- the number of signals that have to be evaluated for a thread: all assignments, unless it has the turn
 abbrev pub unset_of : Sharing → ℕ → ℕ
 unset_of shared t = if nat_eq shared.turn t then unset shared.program.circuit shared.slots else assignments shared.program.circuit
 
--- it is the turn of a thread, and all that an out of it reaches is done
+-- a thread has the turn, and all that an out of it reaches is done
 pub record IsConeDoneOf (shared : Sharing) (t o : ℕ) : Type 0 where
   pub turn : shared.turn ≡ t
   pub cone : IsConeDone shared.program.circuit (out_signal shared.program.circuit (lane_at shared.lanes t) o) shared.slots

@@ -1,4 +1,4 @@
--- More on Along: what no promise of the program's speaks of.
+-- More on Along: what no promise of the program reaches.
 -- Source: this program's own way to compute them; what a settled row and a run are is defined without an order.
 use Rattle.std.specs.Prelude.{ℕ, List}
 use Rattle.gg_flat.specs.Circuit.{FlatCircuit}

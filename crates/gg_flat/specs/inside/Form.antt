@@ -1,4 +1,4 @@
--- Forms: what a line does where that is one operation, or two, on natural numbers that references and literals give.
+-- Forms: lines that are one or two operations on natural numbers, the values of references and literals.
 use Rattle.std.specs.Prelude.{◌≡◌, ℕ, ◌-◌, ◌<◌, List, Ok, length}
 use Rattle.gg_bits.specs.Shape.{Shape, shape, uint, Fits}
 use Rattle.gg_bits.specs.ResultType.{type_const}
@@ -36,7 +36,7 @@ abbrev pub leaf_value : List ℕ → List Node → Leaf → ℕ
 leaf_value signals nodes (Signal s) = value_at signals s
 leaf_value signals nodes (Constant i) = literal_of (op_at nodes i)
 
--- the signal or the node that is named is there
+-- the signal or the node of the leaf exists
 abbrev pub CanRead : List ℕ → List Node → Leaf → Type 0
 CanRead signals nodes (Signal s) = s < length signals
 CanRead signals nodes (Constant i) = i < length nodes

@@ -1,4 +1,4 @@
--- More on InOrder: what no promise of the program's speaks of.
+-- More on InOrder: what no promise of the program reaches.
 -- Source: Knuth, The Art of Computer Programming, volume 1, section 2.2.3, "Topological sorting".
 use Rattle.std.specs.Prelude.{◌≡◌, ℕ, ◌<◌, List, length, AllPairs}
 use Rattle.gg_flat.specs.Line.{value_at}

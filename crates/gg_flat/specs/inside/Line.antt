@@ -1,4 +1,4 @@
--- More on Line: what no promise of the program's speaks of.
+-- More on Line: what no promise of the program reaches.
 use Rattle.std.specs.Prelude.{ℕ, ◌-◌, ◌<◌, List, length}
 use Rattle.gg_bits.specs.Shape.{Shape, shape, Fits}
 use Rattle.gg_flat.specs.Line.{value_at}

@@ -1,4 +1,4 @@
--- More on Named: what no promise of the program's speaks of.
+-- More on Named: what no promise of the program reaches.
 use Rattle.std.specs.Prelude.{◌≡◌, ℕ, Option, All}
 use Rattle.gg_flat.specs.declared.memory.Memory.{Memory}
 use Rattle.gg_flat.specs.declared.piece.Driver.{Driver}
@@ -7,20 +7,20 @@ use Rattle.gg_flat.specs.Reads.{NamesSignal}
 
 -- ---- each signal that something names has the property P
 
--- a driver
+-- each signal that a driver names has the property P
 abbrev pub DriverNamesOnly : (ℕ → Type 0) → Driver → Type 0
 DriverNamesOnly P driver = (s : ℕ) → NamesSignal driver s → P s
 
 -- ---- each clock that something follows has the property Q; None is the clock of every tick
 
--- the ports of a memory
+-- each clock that the ports of a memory follow has the property Q
 pub record MemoryFollowsOnly (Q : Option ℕ → Type 0) (memory : Memory) : Type 0 where
   pub readers : All (λ reader. Q reader.clock) memory.readers
   pub writers : All (λ writer. Q writer.clock) memory.writers
 
--- ---- what a driver names beside signals
+-- ---- what a driver names other than signals
 
--- a driver names a register: the one whose value it gives
+-- a driver names a register: its value is the register's
 abbrev pub NamesRegister : Driver → ℕ → Type 0
 NamesRegister (Input place) r = ⊥
 NamesRegister (Held register) r = register ≡ r
@@ -28,7 +28,7 @@ NamesRegister (MemoryWord memory reader addr en) r = ⊥
 NamesRegister (ReadRegister memory reader) r = ⊥
 NamesRegister (Computed line) r = ⊥
 
--- a driver names a memory: the one whose word or read register it gives
+-- a driver names a memory: its value is a word or a read register of the memory
 abbrev pub NamesMemory : Driver → ℕ → Type 0
 NamesMemory (Input place) m = ⊥
 NamesMemory (Held register) m = ⊥

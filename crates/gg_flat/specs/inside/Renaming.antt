@@ -1,12 +1,12 @@
--- More on Renaming: what no promise of the program's speaks of.
+-- More on Renaming: what no promise of the program reaches.
 -- Source: FIRRTL Specification, "Instances": each instance of a module has all that the module declares, under names of its own.
 use Rattle.gg_flat.specs.Renaming.{Renaming, signals_by}
 
--- the numbers that there are
+-- the numbers as they are
 abbrev pub same_numbers : Renaming
 same_numbers = signals_by (λ s. s)
 
--- first by the one, then by the other
+-- one renaming, and then the other
 abbrev pub one_by_one : Renaming → Renaming → Renaming
 one_by_one first second =
     record {

@@ -1,6 +1,6 @@
--- More on Served: what no promise of the program's speaks of.
--- Source: FIRRTL Specification, "Memories". Late readers of old words come before the writers, and those of new words
--- after them: this is what "Memories" says of a read under a write.
+-- More on Served: what no promise of the program reaches.
+-- Source: FIRRTL Specification, "Memories". Late readers of old words come before the writers, and late readers of new words after them, as
+-- "Memories" defines a read under a write.
 use Rattle.std.specs.Prelude.{◌≡◌, ◌⊎◌, ℕ, List, [], ◌∷◌, fold, take, ⊤, Bool}
 use Rattle.gg_flat.specs.declared.memory.Memory.{Memory}
 use Rattle.gg_bits.specs.Shape.{Shape}
@@ -8,7 +8,7 @@ use Rattle.gg_flat.specs.inside.Line.{HasValue}
 use Rattle.gg_flat.specs.Memory.{Bank}
 use Rattle.gg_flat.specs.Served.{Access, ByReader, ByWriter, after_access, due_of}
 
--- what is to be served of a memory in a cycle: the accesses, in their order
+-- the accesses of a memory in a cycle, in their order
 abbrev pub due_list : Memory → List Access
 due_list memory = due_of memory.latency memory.readers memory.writers
 
@@ -30,7 +30,7 @@ MemoryNames memory s = SomeNames (due_list memory) s
 abbrev pub after_accesses : List Bool → List ℕ → Memory → Bank → ℕ → Bank
 after_accesses edges signals memory bank j = fold (after_access edges signals) bank (take j (due_list memory))
 
--- what an access writes into a memory whose words have this shape has that shape
+-- an access writes only a value of the shape `word`
 abbrev pub Brings : List ℕ → Shape → Access → Type 0
 Brings signals word (ByReader r reader) = ⊤
 Brings signals word (ByWriter w writer) = HasValue signals writer.word word

@@ -1,4 +1,4 @@
--- More on Settled: what no promise of the program's speaks of.
+-- More on Settled: what no promise of the program reaches.
 -- Source: FIRRTL Specification, "Connects", "Nodes", "Wires", "Registers", "Memories"; the meaning of a cycle without a
 -- combinational loop. It is a relation on whole assignments, with no order of evaluation.
 use Rattle.std.specs.Prelude.{ℕ, ◌<◌, List, length}

@@ -1,10 +1,10 @@
--- More on Clocked: what no promise of the program's speaks of.
--- Source: FIRRTL Specification, "Instances" (an instance's input is connected where the instance stands), "Clock" types,
--- "Registers", "Memories".
+-- More on Clocked: what no promise of the program reaches.
+-- Source: FIRRTL Specification, "Instances" (an instance's input is connected where the instance is), "Clock" types, "Registers",
+-- "Memories".
 use Rattle.std.specs.Prelude.{◌≡◌, ℕ, ◌<◌, Some, length}
 use Rattle.gg_flat_tree.specs.Tree.{InstanceTree, instance_at}
 
--- ---- a circuit whose clocks are those of its tree
+-- ---- a circuit with the clocks of its tree
 
 -- the parent of each instance is before it
 abbrev pub AreParentsBefore : InstanceTree → Type 0

@@ -1,4 +1,4 @@
--- More on Tree: what no promise of the program's speaks of.
+-- More on Tree: what no promise of the program reaches.
 -- Source: FIRRTL Specification, "Instances": the top and, below it, the instances of each module.
 use Rattle.std.specs.Prelude.{[]}
 use Rattle.gg_flat_tree.specs.Tree.{InstanceTree}

@@ -1,6 +1,6 @@
--- How far a text settles which fault is reported. The fault of reading is the only one. The first fault of a circuit
--- is the only one too, except that any ring of modules and any combinational loop may be reported.
--- Source: this program's own. The FIRRTL Specification says which circuits are wrong, and doesn't say which fault is told first.
+-- How far a text settles which fault is reported. The fault of reading is the only one. The first fault of a circuit is the only one too,
+-- except that any ring of modules and any combinational loop may be reported.
+-- Source: this program's own. The FIRRTL Specification says which circuits are wrong, and doesn't say which fault is reported first.
 use Rattle.std.specs.Prelude.{◌≡◌, ◌⊎◌, ℕ, List, ⊤}
 use Rattle.gg_shape.specs.declared.fault.Fault.{Fault}
 use Rattle.gg_shape.specs.declared.fault.Fault.TheVariants.{ModuleRing, Loop}

@@ -1,4 +1,4 @@
--- More on Fault: what no promise of the program's speaks of.
+-- More on Fault: what no promise of the program reaches.
 -- Source: this program's own; what the faults are is defined in the crates that find them.
 use Rattle.std.specs.Prelude.{◌≢◌, ℕ, List, ⊤}
 use Rattle.gg_ast.specs.Tree.{CircuitTree}

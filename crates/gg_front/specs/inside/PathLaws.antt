@@ -21,11 +21,11 @@ TextsHavePaths =
     -- Signals, instances and memories have paths, and the ports of memories names.
     → HavePaths flat tree
 
--- No path of a signal of a text begins so.
+-- No path of a signal of a text begins with `front`.
 abbrev pub NoPathBegins : (front : List ℕ) → Type 0
 NoPathBegins front =
     (text : List ℕ) (circuit : CircuitTree) (flat : FlatCircuit)
     -- The text spells a circuit that has this flat circuit.
     → Spells text circuit → IsFlat circuit flat
-    -- The path of each signal differs from all that begins so.
+    -- The path of each signal differs from every text that begins with `front`.
     → (s : ℕ) (path : List ℕ) → s < length flat.signals → path_at flat.paths s ≢ front ++ path

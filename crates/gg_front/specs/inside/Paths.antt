@@ -11,11 +11,11 @@ use Rattle.gg_flat_tree.specs.Tree.{InstanceTree}
 abbrev pub is_path_byte : ℕ → Bool
 is_path_byte b = is_name_byte b || b == 46
 
--- all bytes are those of names, or dots
+-- all bytes are dots or bytes of names
 abbrev pub HasPathBytes : List ℕ → Type 0
 HasPathBytes path = list_all is_path_byte path ≡ true
 
--- a path isn't empty, and all its bytes are those of names, or dots
+-- a path isn't empty, and all its bytes are dots or bytes of names
 pub record IsPath (path : List ℕ) : Type 0 where
   pub some : 0 < length path
   pub bytes : HasPathBytes path
@@ -24,13 +24,13 @@ pub record IsPath (path : List ℕ) : Type 0 where
 abbrev pub is_signal_byte : ℕ → Bool
 is_signal_byte b = is_path_byte b || b == 58
 
--- the path of a signal isn't empty, and all its bytes are those of names, dots, or colons
+-- the path of a signal isn't empty, and all its bytes are dots, colons or bytes of names
 pub record IsSignalPath (path : List ℕ) : Type 0 where
   pub some : 0 < length path
   pub bytes : list_all is_signal_byte path ≡ true
 
--- Signals have paths of signals, and memories have paths. So have instances, but for the top, whose path is empty. The
--- ports of a memory have names, and no two have the same.
+-- Signals have paths of signals, and memories have paths. Instances have paths too, except the top with its empty path. The ports of a
+-- memory have names, and no two have the same.
 pub record HavePaths (circuit : FlatCircuit) (tree : InstanceTree) : Type 0 where
   pub signals : All IsSignalPath circuit.paths
   pub instances : All HasPathBytes tree.paths

@@ -1,4 +1,4 @@
--- More on Graph: what no promise of the program's speaks of.
+-- More on Graph: what no promise of the program reaches.
 -- Source: Knuth, The Art of Computer Programming, volume 1, section 2.2.3, "Topological sorting".
 use Rattle.std.specs.Prelude.{◌≢◌, ℕ, ◌<◌, List, length, take, Contains, AllPairs}
 use Rattle.gg_graph.specs.Graph.{node_at}

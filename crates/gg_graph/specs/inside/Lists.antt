@@ -1,4 +1,4 @@
--- A graph given by a list of targets for each node. A number that is not a node stands for a place without a target.
+-- A graph given by a list of targets for each node. A number that is not a node means a place without a target.
 use Rattle.std.proofs.Math.Nat.{not-suc-le-zero}
 use Rattle.std.specs.Prelude.{ℕ, ◌<◌, List, [], length, take, Contains, slice_index_or}
 

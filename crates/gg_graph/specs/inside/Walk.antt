@@ -33,24 +33,24 @@ StandsAfter Edge order = (i t : ℕ) → i < length order → Edge (node_at orde
 pub record Walks (Edge : ℕ → ℕ → Type 0) (EdgeBelow : ℕ → ℕ → ℕ → Type 0) (count : ℕ) (path : List ℕ) (stages : List Stage) (places order : List ℕ) : Type 0 where
   pub stage_count : length stages ≡ count
   pub place_count : length places ≡ count
-  -- the nodes that are done are just those of the order
+  -- the nodes that are done are just the nodes of the order
   pub finished : (s : ℕ) → stage_at stages s ≡ Done → Contains order s
   pub ordered : (s : ℕ) → Contains order s → stage_at stages s ≡ Done
-  -- the open nodes are just those of the path
+  -- the open nodes are just the nodes of the path
   pub on_path : (s : ℕ) → stage_at stages s ≡ Open → Contains path s
   pub opened : (s : ℕ) → Contains path s → stage_at stages s ≡ Open
   pub order_once : AllPairs (λ a b. a ≢ b) order
   pub path_once : AllPairs (λ a b. a ≢ b) path
   pub after : StandsAfter Edge order
   pub chain : IsChain Edge path
-  -- a node's targets before the place up to which it was looked at are done
+  -- the targets of a node at places below its entry in `places` are done
   pub scanned : (s t : ℕ) → EdgeBelow s (node_at places s) t → stage_at stages t ≡ Done
 
--- the same of the lists that a walk keeps
+-- `Walks` for the lists that a walk keeps
 abbrev pub IsUnderWay : (ℕ → ℕ → Type 0) → (ℕ → ℕ → ℕ → Type 0) → ℕ → List ℕ → Progress → Type 0
 IsUnderWay Edge EdgeBelow count path walk = Walks Edge EdgeBelow count path walk.stages.items walk.places.items walk.order.items
 
--- the end of a path from one of its nodes on
+-- the part of a path that begins at the node `first`
 pub record IsEndFrom (path : List ℕ) (first : ℕ) (end : List ℕ) : Type 0 where
   pub start : ℕ
   pub within : start < length path

@@ -10,7 +10,7 @@ use Rattle.gg_io.specs.Ends.{Loads, Puts, StandsFront, Ends}
 use Rattle.gg_io.specs.declared.endings.Ending.{Ending}
 use Rattle.gg_io.specs.declared.endings.Ending.TheVariants.{Refused, Unwritten, NoMemory}
 
--- a refusal whose report has this property, or `NoMemory`
+-- `NoMemory`, or a refusal with this property of its report
 abbrev pub IfRefused : (Said → Type 0) → Ending → Type 0
 IfRefused P (Refused said) = P said
 IfRefused P Unwritten = ⊥
@@ -35,12 +35,12 @@ Prints before now failed text (Err (Refused said)) = ⊥
 Prints before now failed text (Err Unwritten) = failed × StandsFront before now text
 Prints before now failed text (Err NoMemory) = StandsFront before now text
 
--- the same of an output, before and after
+-- `Prints` for an output before and after
 abbrev pub PrintsOn : {K T : Type 0} → Sink.Ghosts K → (out out' : K) (text : List ℕ) → Result T Ending → Type 0
 PrintsOn sink out out' text result = Prints (sink.written out) (sink.written out') (Rose (sink.faults out) (sink.faults out')) text result
 
--- Something was judged. It was accepted, and a text of this kind was printed. Or it was refused, and what is reported has
--- this property; or an allocation failed. In both of these cases nothing was written.
+-- Something was accepted, and a text of this kind was printed. Or it was refused, and what is reported has this property; or an allocation
+-- failed. In both of these cases nothing was written.
 pub data PrintsOrStops {T : Type 0} (out : Puts) (IsText : List ℕ → Type 0) (IsReport : Said → Type 0) (result : Result T Ending) : Type 0 where
   PrintsText : (text : List ℕ) (is : IsText text) (prints : Prints out.before out.after out.failed text result) → PrintsOrStops out IsText IsReport result
   Stops : (ending : Ending) (ends : result ≡ Err ending) (says : IfRefused IsReport ending) (none : out.after ≡ out.before) → PrintsOrStops out IsText IsReport result

@@ -1,4 +1,4 @@
--- More on LoadFail: what no promise of the program's speaks of.
+-- More on LoadFail: what no promise of the program reaches.
 -- Source: this program's own.
 use Rattle.std.specs.Prelude.{◌≡◌, ℕ, ◌+◌, ◌<◌, List, length, Option, IfSome, Result, Ok, Err, ⊤}
 use Rattle.gg_io.specs.Count.{risen}
@@ -25,7 +25,7 @@ IsFault Failed = ⊤
 IsFault (TooLong taken) = ⊥
 IsFault NoMemory = ⊤
 
--- the answer is one of those, or one byte past the limit was read and the file, where its bytes are known, is longer
+-- the answer is a failure to read or `NoMemory`; or one byte past the limit was read and the file, where its bytes are known, is longer
 -- than the limit
 abbrev pub IsFaultOrOver : Option (List ℕ) → ℕ → LoadFail → Type 0
 IsFaultOrOver known limit Failed = ⊤

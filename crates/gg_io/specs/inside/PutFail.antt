@@ -1,4 +1,4 @@
--- More on PutFail: what no promise of the program's speaks of.
+-- More on PutFail: what no promise of the program reaches.
 -- Source: this program's own.
 use Rattle.std.specs.Prelude.{ℕ, Result, Ok, Err}
 use Rattle.gg_io.specs.Count.{risen}

@@ -1,15 +1,15 @@
--- More on Bytes: what no promise of the program's speaks of.
+-- More on Bytes: what no promise of the program reaches.
 use Rattle.std.specs.Prelude.{ℕ, Bool, ◌||◌, ◌==◌}
 use Rattle.std.specs.Char.{is_ascii_digit, is_ascii_hexdigit}
 use Rattle.gg_lex.specs.declared.bytes.Class.{Class}
 use Rattle.gg_lex.specs.declared.bytes.Class.TheVariants.{Blank, WordByte, TailByte, BinaryDigit, OctalDigit, DecimalDigit, HexDigit}
 use Rattle.gg_lex.specs.Bytes.{is_binary_digit, is_blank, is_octal_digit, is_tail_byte, is_word_byte, minus}
 
--- `-` or a digit, with which a number may begin
+-- `-` or a digit, which may begin a number
 abbrev pub begins_number : ℕ → Bool
 begins_number b = b == minus || is_ascii_digit b
 
--- the bytes of which a run is made, by its class
+-- the bytes of a run of this class
 abbrev pub is_in_class : Class → ℕ → Bool
 is_in_class Blank = is_blank
 is_in_class WordByte = is_word_byte

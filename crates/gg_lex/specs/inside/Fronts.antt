@@ -27,7 +27,7 @@ pub record IsLongest (Has : List ℕ → Type 0) (bs : List ℕ) (n : ℕ) : Typ
 abbrev pub IsRunOf : Class → List ℕ → Type 0
 IsRunOf class bs = (0 < length bs) × AllPass (is_in_class class) bs
 
--- the class of the digits of the radix with this letter; no radix has it
+-- the class of the digits of the radix with this letter; none if no radix has it
 abbrev pub TellsDigits : ℕ → Option Class → Type 0
 TellsDigits letter None = (b : ℕ) → is_digit_behind letter b ≡ false
 TellsDigits letter (Some class) = (b : ℕ) → is_digit_behind letter b ≡ is_in_class class b
@@ -36,12 +36,12 @@ TellsDigits letter (Some class) = (b : ℕ) → is_digit_behind letter b ≡ is_
 abbrev pub HasNoFront : (List ℕ → Type 0) → List ℕ → Type 0
 HasNoFront Has bs = (n : ℕ) → n ≤ length bs → Has (take n bs) → ⊥
 
--- the longest front with the property has this length; there is none
+-- the length of the longest front with the property; none if there is none
 abbrev pub FindsFront : (List ℕ → Type 0) → List ℕ → Option ℕ → Type 0
 FindsFront Has bs None = HasNoFront Has bs
 FindsFront Has bs (Some n) = IsLongest Has bs n
 
--- the first token has this kind and length; there is none
+-- the kind and length of the first token; none if there is none
 abbrev pub FindsToken : List ℕ → Option Front → Type 0
 FindsToken bs None = BeginsNoToken bs
 FindsToken bs (Some front) = IsFirst front.kind bs front.length
@@ -50,7 +50,7 @@ FindsToken bs (Some front) = IsFirst front.kind bs front.length
 abbrev pub EndsQuoted : List ℕ → ℕ → Type 0
 EndsQuoted bs n = (slice_get bs n ≡ Some quote) × IsQuoted (take n bs)
 
--- the only place of a quote that ends the quoted bytes; there is none
+-- the only place of a quote that ends the quoted bytes; none if there is none
 abbrev pub FindsQuote : List ℕ → Option ℕ → Type 0
 FindsQuote bs None = (n : ℕ) → EndsQuoted bs n → ⊥
 FindsQuote bs (Some n) = EndsQuoted bs n × ((m : ℕ) → EndsQuoted bs m → m ≡ n)
@@ -59,7 +59,7 @@ FindsQuote bs (Some n) = EndsQuoted bs n × ((m : ℕ) → EndsQuoted bs m → m
 abbrev pub IsFrontOfTwo : List ℕ → Symbol → Type 0
 IsFrontOfTwo bs symbol = (2 ≤ length bs) × (take 2 bs ≡ spelling symbol)
 
--- a first byte with which no other token than a symbol may begin
+-- a first byte that begins no token except a symbol
 pub record LeadsSymbol (bs : List ℕ) : Type 0 where
   pub nonempty : 0 < length bs
   pub no_word : IsFalse (starts_word (slice_index bs 0))

@@ -1,4 +1,4 @@
--- More on Lines: what no promise of the program's speaks of.
+-- More on Lines: what no promise of the program reaches.
 use Rattle.std.specs.Prelude.{◌≡◌, ℕ, List}
 use Rattle.gg_lex.specs.declared.token.Tok.{Tok}
 use Rattle.gg_lex.specs.declared.token.LexFault.{LexFault}

@@ -1,4 +1,4 @@
--- The network whose steps were done as often as counts say: what each queue, latch, flag and machine then is.
+-- The network with given counts of its steps: each of its queues, latches, flags and machines.
 -- Source: MEMOCODE 2009 (the k-th token of each queue is the signal's value in cycle k, so that a network's state
 -- follows from counts); ICCAD 2019 for memories that are served port by port.
 use Rattle.std.specs.Prelude.{◌≡◌, ℕ, ◌-◌, ◌*◌, ◌<◌, List, Option, Some, None, Bool, true, false, length, take, drop, nat_lt}
@@ -15,7 +15,8 @@ abbrev pub latch_if : Bool → ℕ → Option ℕ
 latch_if true value = Some value
 latch_if false value = None
 
--- the number of ports that a machine has served in its cycle: all, without those of the cycles that it has finished
+-- the number of ports that a machine has served in its cycle: all that it has served, without the ports of its finished
+-- cycles
 abbrev pub served_now : Kind → Counts → ℕ → ℕ
 served_now kind counts m = counts.serves m - length kind.ports * counts.cycles m
 
@@ -23,9 +24,9 @@ served_now kind counts m = counts.serves m - length kind.ports * counts.cycles m
 abbrev pub part_of : List ℕ → ℕ → ℕ → List ℕ
 part_of list from to = drop from (take to list)
 
--- The machine at place m with these counts. It has the kind of that place, and its state is that of its rows. A latch
--- holds its channel's value of the cycle exactly if that token was taken. A flag is set exactly if the token of the
--- cycle was put. A tray has kept the last values of its channel, another machine none.
+-- The machine at place m with these counts. It has the kind of that place, and its state is the state of its rows. A
+-- latch contains its channel's value of the cycle exactly if that token was taken. A flag is set exactly if the token
+-- of the cycle was put. A tray has kept the last values of its channel, another machine none.
 pub record MachineIsAt (flow : Flow) (frame : Frame) (counts : Counts) (m : ℕ) (machine : Machine) : Type 0 where
   pub kind : kind_of machine ≡ kind_at frame.kinds m
   pub cycle : machine.cycle ≡ counts.cycles m

@@ -77,7 +77,7 @@ pub record Goes (cycle : ℕ) (old : Network) (moved : Bool) (new : Network) : T
   pub none : moved ≡ false → events ≡ []
   pub some : moved ≡ true → 0 < length events
 
--- No count is above what so many cycles make of it, or above what it was before.
+-- No count is above both its old value and its number after `cycle` cycles.
 pub record StaysWithin (cycle : ℕ) (old new : Network) : Type 0 where
   pub cycles : (m : ℕ) → m < length old.machines → cycle_at new m ≤ max cycle (cycle_at old m)
   pub puts : (c : ℕ) → c < length old.wires → network.puts new c ≤ max cycle (network.puts old c)
@@ -95,7 +95,7 @@ pub record HasRun (cycle : ℕ) (old new : Network) : Type 0 where
 abbrev pub AreDrained : Network → Type 0
 AreDrained net = (c : ℕ) → c < length net.wires → length (queue_at net.queues c) ≡ length (opening_queue (wire_at net.wires c).first)
 
--- These are the last values of a list before a cycle: as many as there are from `begin` on, and at most `rows`.
+-- The last values of a list before a cycle: all since `begin`, and at most `rows`.
 pub record AreLast (list : List ℕ) (begin rows cycle : ℕ) (kept : List ℕ) : Type 0 where
   pub count : length kept ≡ min rows (cycle - begin)
   pub is : (j : ℕ) → j < length kept → value_at kept j ≡ value_at list (cycle - length kept + j)

@@ -1,4 +1,4 @@
--- What a loop over the channels or the machines of a network has done so far.
+-- The progress of a loop over the channels or the machines of a network.
 -- Source: this program's own.
 use Rattle.std.specs.Prelude.{◌≡◌, ℕ, ◌<◌, List, Bool, true, false}
 use Rattle.gg_net.specs.declared.event.Event.{Event}
@@ -26,12 +26,12 @@ pub record HadTurn (cycle m : ℕ) (old : Network) (moved : Bool) (new : Network
   pub goes : Goes cycle old moved new
   pub idle : moved ≡ false → IsIdle new m
 
--- The first machines had their turns. If nothing was done, those of them that are below the cycle are idle.
+-- The first machines had their turns. If nothing was done, each of them that is below the cycle is idle.
 pub record HasGoneRound (cycle count : ℕ) (old : Network) (moved : Bool) (new : Network) : Type 0 where
   pub goes : Goes cycle old moved new
   pub idle : moved ≡ false → (m : ℕ) → m < count → cycle_at new m < cycle → IsIdle new m
 
--- No event of these channels, and none of these machines but to take and to give tokens, can be done.
+-- No event of these channels can be done. None of these machines can serve a port or finish its cycle.
 pub record NoneFound (net : Network) (channels machines : ℕ) : Type 0 where
   pub latches : (c : ℕ) → c < channels → Ready net (Latch c) → ⊥
   pub fires : (c : ℕ) → c < channels → Ready net (Fire c) → ⊥

@@ -1,4 +1,4 @@
--- More on Ways: what no promise of the program's speaks of.
+-- More on Ways: definitions that no promise of the program reaches.
 -- Source: MEMOCODE 2009 (a network goes on by steps, one node at a time; its state follows from counts).
 use Rattle.std.specs.Prelude.{◌≡◌, List}
 use Rattle.gg_flat.specs.Streams.{Flow}
@@ -10,11 +10,11 @@ use Rattle.gg_net.specs.inside.Fits.{HasLayout, marking_of}
 use Rattle.gg_net.specs.inside.Counts.{Counts, AreSame, HasBegun, IsAllowed, counts_of}
 use Rattle.gg_measure.specs.Ways.{StepsBy}
 
--- what the laws say holds of each network that has the invariant of a flow, and of its layout
+-- a fact about each network with the invariant of a flow, and about its layout
 abbrev pub OfEachKept : (Flow → Network → Layout → Type 0) → Type 0
 OfEachKept Holds = (flow : Flow) (net : Network) (layout : Layout) → Kept flow net → HasLayout (frame_of net) layout → Holds flow net layout
 
--- what the laws say holds of each of them that is before its first cycle
+-- a fact about each of these networks that is before its first cycle
 abbrev pub OfEachOpening : (Flow → Network → Layout → Type 0) → Type 0
 OfEachOpening Holds = OfEachKept (λ flow net layout. marking_of net ≡ opening_marking layout flow.begin → Holds flow net layout)
 

@@ -1,4 +1,4 @@
--- More on MemoryUnit: what no promise of the program's speaks of.
+-- More on MemoryUnit: what no promise of the program reaches.
 -- Source: ICCAD 2019 (a target memory that its host simulates by serving its ports one after another); FIRRTL
 -- Specification, "Memories".
 use Rattle.std.specs.Prelude.{◌≡◌, ℕ, ◌+◌, ◌-◌, List, [], ◌∷◌, Option, Some, None, Bool, All, length, fold, nat_lt, slice_index_or, if◌then◌else◌}
@@ -61,8 +61,8 @@ pub record IsOfPiece (piece : FlatCircuit) (state : State) (inputs : List ℕ) (
   pub outs : length flags ≡ length piece.outs
   pub tokens : inputs ≡ latched_values latches
 
--- Once all ports of a memory were served, with the tokens in the latches, its state is the piece's next state of a tick with
--- these edges, whose inputs are these tokens.
+-- Once all ports of a memory were served with the tokens in the latches, its state is the piece's next state of a tick with these edges and with
+-- these tokens as inputs.
 abbrev pub IsServedThrough : List Bool → FlatCircuit → State → Type 0
 IsServedThrough edges piece state =
     (latches : List (Option ℕ)) (signals : List ℕ) → Settled piece state (latched_values latches) signals

@@ -1,4 +1,4 @@
--- More on Counts: what no promise of the program's speaks of.
+-- More on Counts: definitions that no promise of the program reaches.
 -- Source: MEMOCODE 2009 (a node gives and takes one token for each channel in a cycle, gives one as soon as what it
 -- depends on is there, and finishes the cycle when it has done both; a queue holds at most its bound); ICCAD 2019 for
 -- memories that are served port by port.
@@ -58,19 +58,19 @@ pub record HasServed (layout : Layout) (counts : Counts) (m j : ℕ) : Type 0 wh
   pub given : 0 < j → HasGiven layout counts m (counts.cycles m)
   pub fields : (i : ℕ) (any : Turn) → i < j → All (WasTaken counts (counts.cycles m)) (slice_index_or (turns_at layout m) i any).fields
 
--- No more tokens are taken from a channel than have entered it: those that were put, and the one that it opens with.
--- No more are held than its capacity.
+-- No more tokens are taken from a channel than have entered it: the tokens put, and one more if the channel opens with
+-- a token. The queue contains at most its capacity.
 pub record Flows (counts : Counts) (first capacity c : ℕ) : Type 0 where
   pub least : counts.takes c ≤ counts.puts c + first
   pub most : counts.puts c + first ≤ counts.takes c + capacity
 
--- These counts can come up together: the first clause is on one channel, each other on one machine.
+-- These counts can come up together. Each clause is about one channel or one machine.
 pub record IsAllowed (layout : Layout) (counts : Counts) : Type 0 where
   -- no more was taken than has entered, and no more is held than the capacity
   pub flows : (c : ℕ) → c < length layout.links → Flows counts (early layout c) (link_at layout c).capacity c
-  -- of the producer's cycle the token wasn't given yet, or it was and could be
+  -- the token of the producer's cycle wasn't given yet, or it was and could be given
   pub puts : (c : ℕ) → c < length layout.links → (counts.puts c ≡ counts.cycles (link_at layout c).producer) ⊎ WasGiven layout counts c
-  -- of the consumer's cycle the token wasn't taken yet, or it was
+  -- the token of the consumer's cycle wasn't taken yet, or it was
   pub takes : (c : ℕ) → c < length layout.links → (counts.takes c ≡ counts.cycles (link_at layout c).consumer) ⊎ (counts.takes c ≡ suc (counts.cycles (link_at layout c).consumer))
   pub serves : (m : ℕ) → m < length layout.turns → (j : ℕ) × HasServed layout counts m j
   -- nothing goes past the last cycle
@@ -79,11 +79,11 @@ pub record IsAllowed (layout : Layout) (counts : Counts) : Type 0 where
   pub take_end : (c : ℕ) → c < length layout.links → counts.takes c ≤ layout.end
   pub serve_end : (m : ℕ) → m < length layout.turns → counts.serves m ≤ dues layout m * layout.end
 
--- each machine is at or past the cycle with which all begins
+-- no machine is before the first cycle, `begin`
 pub record HasBegun (layout : Layout) (begin : ℕ) (counts : Counts) : Type 0 where
   pub cycles : (m : ℕ) → m < length layout.turns → begin ≤ counts.cycles m
 
--- ---- counts beside one another
+-- ---- comparing counts
 
 -- These counts are nowhere lower than those.
 pub record AreAtMost (layout : Layout) (old new : Counts) : Type 0 where
@@ -99,7 +99,7 @@ pub record AreSame (layout : Layout) (old new : Counts) : Type 0 where
   pub cycles : (m : ℕ) → m < length layout.turns → new.cycles m ≡ old.cycles m
   pub serves : (m : ℕ) → m < length layout.turns → new.serves m ≡ old.serves m
 
--- 1 at one number, else 0
+-- 1 at one number, otherwise 0
 abbrev pub one_at : ℕ → ℕ → ℕ
 one_at a b = if a == b then 1 else 0
 
@@ -147,18 +147,18 @@ pub record Raises (layout : Layout) (old : Counts) (event : Event) (new : Counts
 
 -- ---- layouts
 
--- A layout whose network can go on: ends, needs and fields are channels and machines that exist, each channel has room
--- for a token, and there is no ring among the needs.
+-- A network with this layout can go on: ends, needs and fields are channels and machines that exist, each channel has
+-- room for a token, and there is no ring among the needs.
 pub record CanRun (layout : Layout) : Type 0 where
   pub producer : (c : ℕ) → c < length layout.links → (link_at layout c).producer < length layout.turns
   pub consumer : (c : ℕ) → c < length layout.links → (link_at layout c).consumer < length layout.turns
   pub room : (c : ℕ) → c < length layout.links → 1 ≤ (link_at layout c).capacity
-  -- the machine that gives a channel takes those that it needs
+  -- the producer of a channel takes the channels that the channel needs
   pub needs : (c : ℕ) → c < length layout.links → All (λ d. (d < length layout.links) × ((link_at layout d).consumer ≡ (link_at layout c).producer)) (link_at layout c).needs
   -- a machine takes the channels of its ports' fields
   pub fields : (m : ℕ) → m < length layout.turns → All (λ turn. All (λ d. (d < length layout.links) × ((link_at layout d).consumer ≡ m)) turn.fields) (turns_at layout m)
   pub numbers : (m : ℕ) → m < length layout.turns → All (λ turn. turn.number < marks.port_count layout m) (turns_at layout m)
-  -- each channel has a rank, and needs only channels of lower ranks, so there is no ring
+  -- each channel has a rank, and needs only channels of lower ranks, therefore there is no ring
   pub ranks : ℕ → ℕ
   pub lower : (c : ℕ) → c < length layout.links → All (λ d. ranks d < ranks c) (link_at layout c).needs
 

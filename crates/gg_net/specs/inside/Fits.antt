@@ -10,7 +10,7 @@ use Rattle.gg_net.specs.Step.{latch_of, flag_of}
 use Rattle.gg_net.specs.Refusal.{Turn}
 use Rattle.gg_net.specs.markings.Marking.{Link, Layout, Marking, link_at, turns_at}
 
--- for each of these channels, the in at which its consumer takes it
+-- the places of these channels among the ins of their consumers
 abbrev pub places_of : Frame → List ℕ → List ℕ
 places_of frame channels = map (λ d. (wire_at frame.wires d).place) channels
 
@@ -24,7 +24,7 @@ pub record IsLinkOf (frame : Frame) (c : ℕ) (link : Link) : Type 0 where
   pub consumer : link.consumer ≡ (wire_at frame.wires c).consumer
   pub capacity : link.capacity ≡ (wire_at frame.wires c).capacity
   pub piped : link.piped ≡ is_some (wire_at frame.wires c).first
-  -- the ins at which the needed channels are
+  -- the places of the needed channels are the ins that the out needs
   pub needs : places_of frame link.needs ≡ needs_at (kind_at frame.kinds (wire_at frame.wires c).producer).needs (wire_at frame.wires c).out
   pub taken : AreTaken frame (wire_at frame.wires c).producer link.needs
 
@@ -40,7 +40,7 @@ pub record AreTurnsOf (frame : Frame) (m : ℕ) (ports : List Port) (turns : Lis
   pub count : length turns ≡ length ports
   pub each : (i : ℕ) (port : Port) (turn : Turn) → i < length ports → IsTurnOf frame m (slice_index_or ports i port) (slice_index_or turns i turn)
 
--- The layout is that of a network with this frame.
+-- A network with this frame has this layout.
 pub record HasLayout (frame : Frame) (layout : Layout) : Type 0 where
   pub machines : length layout.turns ≡ length frame.kinds
   pub channels : length layout.links ≡ length frame.wires

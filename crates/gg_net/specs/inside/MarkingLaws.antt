@@ -1,4 +1,4 @@
--- What the marking of a network tells of the network, and of steps.
+-- Laws: a network agrees with its marking, also after steps.
 -- Source: MEMOCODE 2009 (the k-th token of each queue is the signal's value in cycle k, so that a network's state
 -- follows from counts).
 use Rattle.std.specs.Prelude.{◌≡◌, ℕ, suc, ◌-◌, ◌<◌, ◌++◌, List, [], ◌∷◌, Option, Ok, Err, length, take}
@@ -26,7 +26,7 @@ RefusalsAreMarked =
     (flow : Flow) (net : Network) (layout : Layout) (event : Event)
     -- The network is kept and has this layout.
     → Kept flow net → HasLayout (frame_of net) layout
-    -- The table says the same of the network and of its marking.
+    -- The table returns the same for the network and its marking.
     → table.refusal (facts_of net) event ≡ marked_refusal layout (marking_of net) event
 
 -- Before the first cycle the marking is the opening marking.
@@ -37,7 +37,7 @@ OpensMarked =
     → ((m : ℕ) → m < length machines → IsOpening flow m (machine_at machines m))
     -- The network of these machines and channels has this layout.
     → HasLayout (frame_of (opening_net machines wires end)) layout
-    -- Its marking is the opening marking at the cycle with which the flow begins.
+    -- Its marking is the opening marking at the flow's first cycle.
     → marking_of (opening_net machines wires end) ≡ opening_marking layout flow.begin
 
 -- Before the first cycle no token was put since the network began.
@@ -48,7 +48,7 @@ OpensWithNonePut =
     → ((m : ℕ) → m < length machines → IsOpening flow m (machine_at machines m))
     -- The producer of channel c is one of them.
     → (wire_at wires c).producer < length machines
-    -- The tokens put into the channel are as many as the cycles before the beginning.
+    -- The number of tokens put into the channel is the number of cycles before the beginning.
     → network.puts (opening_net machines wires end) c ≡ flow.begin
 
 -- The newest token of a queue is the last of the channel's values that have entered.
@@ -66,11 +66,11 @@ PutsTheNext =
     (flow : Flow) (old new : Network) (c : ℕ)
     -- The network is kept, and channel c is fired.
     → Kept flow old → Step old (Fire c) new
-    -- The values that have entered are those that had entered before, and the newest token of the queue behind them.
+    -- The values that have entered are the earlier ones, and then the newest token of the queue.
     → take (entered new c) (list_at flow.lists c)
     ≡ take (entered old c) (list_at flow.lists c) ++ value_at (queue_at new.queues c) (length (queue_at new.queues c) - 1) ∷ []
 
--- Steps that are done lead to the marking to which they are replayed.
+-- Steps that are done lead to the marking that their replay leads to.
 abbrev pub StepsAreReplayed : Type 0
 StepsAreReplayed =
     (flow : Flow) (old new : Network) (layout : Layout) (k : ℕ) (events : List (Option Event))
@@ -78,7 +78,7 @@ StepsAreReplayed =
     → Kept flow old → HasLayout (frame_of old) layout
     -- These steps lead to another network.
     → Steps old events new
-    -- Replayed from the marking of the first they lead to that of the other.
+    -- Replayed from the marking of the first network, they lead to the marking of the other.
     → replayed_from layout k (marking_of old) events ≡ Ok (marking_of new)
 
 -- Steps that stop are replayed up to the same step, and stop for the same cause.
@@ -89,7 +89,7 @@ StopsAreReplayed =
     → Kept flow old → HasLayout (frame_of old) layout
     -- The steps stop at this step, for this cause.
     → StopsAt k old events new stopped
-    -- Replayed from the marking they stop so.
+    -- Replayed from the marking, they stop at the same step for the same cause.
     → replayed_from layout k (marking_of old) events ≡ Err stopped
 
 -- After a step that is done the replay goes on with the rest.
@@ -100,5 +100,5 @@ ReplayGoesOn =
     → Kept flow old → HasLayout (frame_of old) layout
     -- The step leads to another network.
     → IsStep old event new
-    -- The step and the rest, replayed from the marking of the first, come to what the rest does from that of the other.
+    -- Replaying the step and the rest from the first marking comes to the same as replaying the rest from the second.
     → replayed_from layout k (marking_of old) (event ∷ events) ≡ replayed_from layout (suc k) (marking_of new) events

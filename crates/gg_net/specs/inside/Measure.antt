@@ -1,4 +1,4 @@
--- More on Measure: what no promise of the program's speaks of.
+-- More on Measure: definitions that no promise of the program reaches.
 -- Source: Dijkstra, "A Discipline of Programming" (1976) (a number that each step lowers shows that steps end).
 use Rattle.std.specs.Prelude.{ℕ, ◌+◌, ◌-◌, ◌*◌, length}
 use Rattle.gg_net.specs.markings.Marking.{Layout}

@@ -1,6 +1,6 @@
--- More on Net: what no promise of the program's speaks of.
--- Source: MEMOCODE 2009 (a network before its first cycle: all latches and flags empty, and all queues but those that
--- open with a token); ICCAD 2019 for hosts.
+-- More on Net: definitions that no promise of the program reaches.
+-- Source: MEMOCODE 2009 (a network before its first cycle: latches, flags and queues are empty, except queues that open
+-- with a token); ICCAD 2019 for hosts.
 use Rattle.std.specs.Prelude.{◌≡◌, ℕ, ◌^◌, ◌<◌, ◌≤◌, List, [], None, false, length, map, sum, replicate, slice_index_or}
 use Rattle.gg_bits.specs.Limits.{capacity_limit, cycle_limit}
 use Rattle.gg_flat.specs.Line.{value_at}
@@ -60,12 +60,12 @@ pub record IsWithinLimits (frame : Frame) : Type 0 where
   pub ports : sum (map (λ kind. length kind.ports) frame.kinds) < 2 ^ 32
   pub capacities : (c : ℕ) → c < length frame.wires → (wire_at frame.wires c).capacity ≤ capacity_limit
 
--- What holds of the parts of a network at all times.
+-- The invariant of the parts of a network.
 pub record IsNet (flow : Flow) (hosts : List (List Machine)) (stations : List Station) (wires : List Wire) (queues : List Held) (end : ℕ) : Type 0 where
   -- each machine is at a thread of a host, and each thread has one
   pub stationed : AreStationed hosts stations
   pub listed : AreListed (frame_of (net_of hosts stations wires queues end)) stations
-  -- each queue has memory for as many tokens as its channel may hold
+  -- each queue has memory for its channel's capacity
   pub room : HasRoom wires queues
   pub limits : IsWithinLimits (frame_of (net_of hosts stations wires queues end))
   pub kept : Kept flow (net_of hosts stations wires queues end)

@@ -1,4 +1,4 @@
--- More on Network: what no promise of the program's speaks of.
+-- More on Network: definitions that no promise of the program reaches.
 -- Source: MEMOCODE 2009 (a bounded dataflow network: nodes connected by queues of a bounded length); ICCAD 2019 (units
 -- of a target that pass one another a token for each target cycle); Commoner, Holt, Even and Pnueli, "Marked Directed
 -- Graphs" (1971), for a channel that holds a token at the start.

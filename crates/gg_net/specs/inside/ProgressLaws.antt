@@ -1,5 +1,5 @@
 -- Which counts steps lead to, and how many steps there are.
--- Source: Commoner, Holt, Even and Pnueli, "Marked Directed Graphs" (1971) (which markings can be reached from which);
+-- Source: Commoner, Holt, Even and Pnueli, "Marked Directed Graphs" (1971) (the markings that can be reached);
 -- Dijkstra, "A Discipline of Programming" (1976) (a number that each step lowers).
 use Rattle.std.specs.Prelude.{◌≡◌, ◌↔◌, ℕ, suc, ◌+◌, ◌-◌, ◌*◌, ◌<◌, ◌≤◌, ◌++◌, List, [], ◌∷◌, Option, None, Ok, length}
 use Rattle.gg_net.specs.declared.event.Event.{Event}
@@ -54,7 +54,7 @@ OpeningMeasure =
     (layout : Layout) (begin : ℕ)
     -- The layout can run, and the beginning isn't past its end.
     → CanRun layout → begin ≤ layout.end
-    -- In each cycle that is left there are two steps a channel, one a machine, and one a port that is served.
+    -- Each cycle that is left has two steps for each channel, one for each machine, and one for each served port.
     → left layout (counts_of layout (opening_marking layout begin))
     ≡ (layout.end - begin) * (2 * length layout.links + length layout.turns + all_dues layout)
 
@@ -66,7 +66,7 @@ LeadsUp =
     (layout : Layout) (old new : Marking)
     -- The layout can run, and both markings are of it.
     → CanRun layout → IsMarkingOf layout old → IsMarkingOf layout new
-    -- The counts of both are allowed, and those of the first are at most those of the second.
+    -- The counts of both are allowed, and the first counts are at most the second.
     → IsAllowed layout (counts_of layout old) → IsAllowed layout (counts_of layout new)
     → AreAtMost layout (counts_of layout old) (counts_of layout new)
     -- There are events that lead from the first to the second.
@@ -80,21 +80,21 @@ LeadsOnlyUp =
     → CanRun layout → IsMarkingOf layout old → IsAllowed layout (counts_of layout old)
     -- The events lead from the first marking to the second.
     → Leads layout old events new
-    -- The second is a marking of the layout, its counts are allowed, and those of the first are at most these.
+    -- The second is a marking of the layout, its counts are allowed, and the first counts are at most these.
     → IsMarkingOf layout new × IsAllowed layout (counts_of layout new) × AreAtMost layout (counts_of layout old) (counts_of layout new)
 
--- Events that can't be lengthened lead to the end, and are as many as the measure.
+-- Events that can't be lengthened lead to the end, and their number is the measure.
 abbrev pub StuckAtEnd : Type 0
 StuckAtEnd =
     (layout : Layout) (old new : Marking) (events : List Event)
     -- The layout can run, and the first marking is one of it, with allowed counts.
     → CanRun layout → IsMarkingOf layout old → IsAllowed layout (counts_of layout old)
-    -- The events lead to a marking at which no event may be done.
+    -- The events lead to a marking that allows no event.
     → Leads layout old events new → IsStuck layout new
-    -- It is the marking at the end, and there are as many events as the measure says at the first marking.
+    -- It is the marking at the end, and the number of events is the measure of the first marking.
     → (new ≡ end_marking layout) × (length events ≡ left layout (counts_of layout old))
 
--- The counts that can be reached from the opening are just those that are allowed and have begun.
+-- Exactly the counts that are allowed and have begun can be reached from the opening.
 abbrev pub ReachedIfAllowed : Type 0
 ReachedIfAllowed =
     (layout : Layout) (begin : ℕ) (counts : Counts)
@@ -114,16 +114,16 @@ OfReplayed Holds =
     (layout : Layout) (k : ℕ) (old new : Marking) (events : List (Option Event))
     -- The layout can run, and the first marking is one of it, with allowed counts.
     → CanRun layout → IsMarkingOf layout old → IsAllowed layout (counts_of layout old)
-    -- The steps, numbered from k on, are replayed from the first marking to the second.
+    -- The steps, the first with number `k`, are replayed from the first marking to the second.
     → replayed_from layout k old events ≡ Ok new
     -- This holds of them.
     → Holds layout k old events new
 
--- The steps and the measure behind them come to the measure before them.
+-- The number of steps and the measure after them add up to the measure before them.
 abbrev pub ReplayedLower : Type 0
 ReplayedLower = OfReplayed (λ layout k old events new. length events + left layout (counts_of layout new) ≡ left layout (counts_of layout old))
 
--- The steps are fewer than the measure before them exactly if one more can be replayed behind them.
+-- One more step can be replayed after these exactly if their number is below the measure before them.
 abbrev pub ReplayedWhileLeft : Type 0
 ReplayedWhileLeft =
     OfReplayed (λ layout k old events new. (length events < left layout (counts_of layout old))

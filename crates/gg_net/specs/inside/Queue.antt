@@ -1,11 +1,11 @@
--- The queue of a channel: its tokens, and the number of tokens for which there is room.
+-- The queue of a channel: its tokens, and how many of them it has room for.
 -- Source: MEMOCODE 2009 (queues of a bounded length between the nodes of a network).
 use Rattle.std.specs.Prelude.{◌≡◌, ℕ, ◌-◌, ◌<◌, List, [], Option, MatchOption, length}
 use Rattle.std.specs.VecDeque.{deque_capacity}
 use Rattle.std.specs.declared.collections.VecDeque.{VecDeque}
 use Rattle.gg_flat.specs.Line.{value_at}
 
--- The tokens of a queue, the front first, and the number of tokens for which there is room.
+-- The tokens of a queue, the front first, and how many of them it has room for.
 pub record Held : Type 0 where
   pub tokens : List ℕ
   pub room : ℕ

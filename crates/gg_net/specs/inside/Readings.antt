@@ -1,4 +1,4 @@
--- What one machine waits for, by its own latches and flags. The table (`Refusal`) speaks of channels instead.
+-- What one machine waits for, by its own latches and flags. The table (`Refusal`) uses channels instead.
 -- Source: MEMOCODE 2009; ICCAD 2019 for memories that are served port by port.
 use Rattle.std.specs.Prelude.{◌≡◌, ℕ, ◌<◌, List, [], Option, Some, None, Bool, true, false, IsSome, length, slice_get}
 use Rattle.gg_node.specs.Machine.{Port, Machine, machine_at, latch_at, flag_at}

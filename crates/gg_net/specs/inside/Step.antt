@@ -1,4 +1,4 @@
--- More on Step: what no promise of the program's speaks of.
+-- More on Step: definitions that no promise of the program reaches.
 -- Source: MEMOCODE 2009 (a node takes a token from each input queue once in a cycle, gives one to each output queue as
 -- soon as what it depends on is there and the queue has room, and then finishes the cycle); ICCAD 2019 for memories
 -- that are served port by port.

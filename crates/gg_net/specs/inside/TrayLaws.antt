@@ -1,4 +1,4 @@
--- What a tray tells of its channel: the values of the last cycles.
+-- A tray has the values of its channel in the last cycles.
 -- Source: MEMOCODE 2009 (the k-th token of each queue is the signal's value in cycle k). Trays are this program's own.
 use Rattle.std.specs.Prelude.{◌≡◌, ℕ, ◌+◌, ◌<◌, ◌≤◌, Some, length}
 use Rattle.gg_flat.specs.Line.{value_at}
@@ -11,9 +11,9 @@ use Rattle.gg_net.specs.Kept.{Kept, list_at}
 abbrev pub TraysTell : Type 0
 TraysTell =
     (flow : Flow) (net : Network) (c rows t : ℕ)
-    -- The network is kept, and channel c leads to a tray of so many rows.
+    -- The network is kept, and channel c leads to a tray that keeps `rows` values.
     → Kept flow net → c < length net.wires → (consumer_of net c).behaviour ≡ KeepsLast rows
-    -- Cycle t isn't before the beginning, and it is one of the last `rows` cycles before that of the tray.
+    -- Cycle t isn't before the beginning, and it is one of the last `rows` cycles before the tray's cycle.
     → flow.begin ≤ t → t < (consumer_of net c).cycle → (consumer_of net c).cycle ≤ t + rows
     -- The tray has the channel's value of that cycle.
     → kept_value (consumer_of net c) t ≡ Some (value_at (list_at flow.lists c) t)
@@ -22,9 +22,9 @@ TraysTell =
 abbrev pub TraysTellOnly : Type 0
 TraysTellOnly =
     (flow : Flow) (net : Network) (c rows t value : ℕ)
-    -- The network is kept, and channel c leads to a tray of so many rows.
+    -- The network is kept, and channel c leads to a tray that keeps `rows` values.
     → Kept flow net → c < length net.wires → (consumer_of net c).behaviour ≡ KeepsLast rows
     -- The tray has this value of cycle t.
     → kept_value (consumer_of net c) t ≡ Some value
-    -- Cycle t isn't before the beginning, it is one of the last `rows` cycles before that of the tray, and the value is the channel's.
+    -- Cycle t isn't before the beginning and is one of the last `rows` cycles before the tray's cycle. The value is the channel's.
     → (flow.begin ≤ t) × (t < (consumer_of net c).cycle) × ((consumer_of net c).cycle ≤ t + rows) × (value ≡ value_at (list_at flow.lists c) t)

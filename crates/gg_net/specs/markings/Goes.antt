@@ -7,7 +7,7 @@ use Rattle.gg_net.specs.declared.event.StepRefusal.{StepRefusal}
 use Rattle.gg_net.specs.declared.event.StepRefusal.TheVariants.{Stranger}
 use Rattle.gg_net.specs.markings.Marking.{Layout, Marking, marked_refusal, after}
 
--- A step that was refused: its number, from 1 on, and why.
+-- A step that was refused: its number, and why.
 pub record Stopped : Type 0 where
   pub step : ℕ
   pub cause : StepRefusal

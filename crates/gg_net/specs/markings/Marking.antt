@@ -12,7 +12,7 @@ use Rattle.gg_net.specs.declared.event.StepRefusal.{StepRefusal}
 use Rattle.gg_net.specs.Refusal.{Turn, Facts}
 use Rattle.gg_net.specs.Refusal as table
 
--- ---- what never changes
+-- ---- the layout
 
 -- A channel: the machines at its ends, the most tokens that its queue may hold, the channels that it needs in a cycle,
 -- and whether it opens with a token.
@@ -39,7 +39,7 @@ link_at layout c = slice_index_or layout.links c (record { producer = 0; consume
 abbrev pub turns_at : Layout → ℕ → List Turn
 turns_at layout m = slice_index_or layout.turns m []
 
--- ---- what changes
+-- ---- the marking
 
 -- The cycle of each machine, and the number of its ports that were served in it. For each channel, whether its consumer
 -- has taken the token of the consumer's cycle, and whether its producer has given the token of the producer's cycle.
@@ -63,19 +63,19 @@ opening_marking layout begin =
       given = replicate (length layout.links) false;
     }
 
--- the numbers of tokens that were put into a channel, have entered it, were taken from it, and are held
+-- the number of tokens that were put into a channel
 abbrev pub marked_puts : Layout → Marking → ℕ → ℕ
 marked_puts layout marking c = and_one (value_at marking.cycles (link_at layout c).producer) (is_set marking.given c)
 
--- the tokens that have entered: those that were put, and the one that a piped channel opens with
+-- the number of tokens that have entered a channel: the tokens put, and one more if it is piped
 abbrev pub marked_entered : Layout → Marking → ℕ → ℕ
 marked_entered layout marking c = and_one (marked_puts layout marking c) (link_at layout c).piped
 
--- the tokens that were taken: one for each cycle before the consumer's own, and that of its own if it was taken
+-- the number of tokens that were taken: one for each cycle before the consumer's, and one more if this cycle's was taken
 abbrev pub marked_takes : Layout → Marking → ℕ → ℕ
 marked_takes layout marking c = and_one (value_at marking.cycles (link_at layout c).consumer) (is_set marking.taken c)
 
--- the tokens in the queue: those that have entered and weren't taken
+-- the number of tokens in the queue: the tokens that have entered and weren't taken
 abbrev pub held : Layout → Marking → ℕ → ℕ
 held layout marking c = marked_entered layout marking c - marked_takes layout marking c
 
@@ -89,7 +89,7 @@ port_count layout m = value_at layout.port_counts m
 abbrev pub due_turn : Layout → Marking → ℕ → Option Turn
 due_turn layout marking m = slice_get (turns_at layout m) (value_at marking.served m)
 
--- what decides a step, as a layout and a marking tell it
+-- the facts that decide a step, from a layout and a marking
 abbrev pub marked_facts : Layout → Marking → Facts
 marked_facts layout marking =
     record {
@@ -111,9 +111,9 @@ marked_facts layout marking =
 abbrev pub marked_refusal : Layout → Marking → Event → Option StepRefusal
 marked_refusal layout marking event = table.refusal (marked_facts layout marking) event
 
--- ---- what a step does
+-- ---- the effect of a step
 
--- the marks of channels; those of the channels with machine m at this end are cleared
+-- the marks of channels, cleared for channels with machine m at this end
 abbrev pub cleared : (Link → ℕ) → Layout → ℕ → List Bool → List Bool
 cleared machine_of layout m marks = map (λ c. if machine_of (link_at layout c) == m then false else is_set marks c) (range_with_len 0 (length layout.links))
 
@@ -121,8 +121,8 @@ cleared machine_of layout m marks = map (λ c. if machine_of (link_at layout c) 
 abbrev pub one_more : List ℕ → ℕ → List ℕ
 one_more counts m = slice_set counts m (suc (value_at counts m))
 
--- The marking after an event: a token is taken, or given; a port is served; or a cycle is finished, and then the machine begins its next
--- one, in which it has taken, given and served nothing.
+-- The marking after an event: a token is taken or given, a port is served, or a cycle is finished. In its next cycle the machine has taken, given and
+-- served nothing.
 abbrev pub after : Layout → Marking → Event → Marking
 after layout marking (Latch c) = record marking { taken = slice_set marking.taken c true }
 after layout marking (Fire c) = record marking { given = slice_set marking.given c true }

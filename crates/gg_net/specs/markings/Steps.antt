@@ -9,7 +9,7 @@ use Rattle.gg_net.specs.Network.{Network}
 use Rattle.gg_net.specs.Step.{Refused, Step}
 use Rattle.gg_net.specs.markings.Goes.{Stopped}
 
--- what a step makes of a network; a step that isn't an event is never done
+-- a step leads from one network to another; a step that isn't an event is never done
 abbrev pub IsStep : Network → Option Event → Network → Type 0
 IsStep old None new = ⊥
 IsStep old (Some event) new = Step old event new

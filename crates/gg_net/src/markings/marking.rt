@@ -29,8 +29,8 @@ pub fn opens_with_marking()
     ensures none { OpensWithNonePut }
 {}
 
-/// The counts of a network and the lengths of its queues are those of its marking. The newest token of a queue is the
-/// last of the values of its channel's list that have entered so far.
+/// The marking has the counts of its network and the lengths of its queues. The newest token of a queue is the last of the values of its channel's
+/// list that have entered so far.
 pub fn counts_by_marking()
     ensures puts { (net : Network) (layout : Layout) (c : ℕ) → HasLayout (frame_of net) layout → c < length net.wires → network.puts net c ≡ marked_puts layout (marking_of net) c }
     ensures takes { (net : Network) (layout : Layout) (c : ℕ) → HasLayout (frame_of net) layout → c < length net.wires → network.takes net c ≡ marked_takes layout (marking_of net) c }
@@ -39,9 +39,8 @@ pub fn counts_by_marking()
     ensures newest { NewestIsLastEntered }
 {}
 
-/// A token is put into a channel when the channel is fired, and at no other step. At most as many are put as the
-/// network has cycles. The token is then the newest of the queue, and the tokens put so far are the first values of the
-/// channel's list.
+/// A token is put into a channel when the channel is fired, and at no other step. The number of tokens put is at most the number of cycles. The token
+/// is then the newest of the queue, and the tokens put so far are the first values of the channel's list.
 pub fn puts_by_step()
     ensures fires { (flow : Flow) (old new : Network) (c : ℕ) → Kept flow old → Step old (Fire c) new → network.puts new c ≡ suc (network.puts old c) }
     ensures others { (flow : Flow) (old new : Network) (event : Event) (c : ℕ) → Kept flow old → Step old event new → c < length old.wires → event ≢ Fire c → network.puts new c ≡ network.puts old c }
@@ -57,7 +56,7 @@ pub fn steps_keep()
     ensures more { (old next new : Network) (events : List (Option Event)) (event : Option Event) → Steps old events next → IsStep next event new → Steps old (events ++ event ∷ []) new }
 {}
 
-/// What steps do to the marking determines where they lead, which step is refused, and why.
+/// The effect of steps on the marking determines where they lead, which step is refused, and why.
 pub fn steps_by_marking()
     ensures done { StepsAreReplayed }
     ensures stopped { StopsAreReplayed }

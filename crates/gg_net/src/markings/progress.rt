@@ -32,8 +32,8 @@ pub fn one_marking_by_counts()
     ensures { (layout : Layout) (one other : Marking) → CanRun layout → IsMarkingOf layout one → IsMarkingOf layout other → AreSame layout (counts_of layout one) (counts_of layout other) → other ≡ one }
 {}
 
-/// A list of events that can't be lengthened has as many as the measure where it begins, and leads to the end. There
-/// each channel holds as many tokens as it opened with.
+/// A list of events that can't be lengthened leads to the end, and its length is the measure at its start. At the end each channel contains as many
+/// tokens as it opened with.
 pub fn ends_so()
     ensures ends { StuckAtEnd }
     ensures held { (layout : Layout) (c : ℕ) → CanRun layout → c < length layout.links → held layout (end_marking layout) c ≡ early layout c }
@@ -45,8 +45,8 @@ pub fn reached_by_counts()
     ensures { ReachedIfAllowed }
 {}
 
-/// Steps that are replayed to their end lower the measure by one each. They can be followed by one more exactly if they
-/// are fewer than the measure where they begin.
+/// Steps that are replayed to their end lower the measure by one each. One more step can follow exactly if their number is below the measure at their
+/// start.
 pub fn replays_while_left()
     ensures count { ReplayedLower }
     ensures longer { ReplayedWhileLeft }

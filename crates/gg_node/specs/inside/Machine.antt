@@ -1,4 +1,4 @@
--- More on Machine: what no promise of the program's speaks of.
+-- More on Machine: what no promise of the program reaches.
 -- Source: MEMOCODE 2009 (a bounded dataflow network: primitive nodes with a latch for each input and a flag for each
 -- output that was given in this cycle); ICCAD 2019 (units of a target in separate models; memories that a host serves
 -- port by port).

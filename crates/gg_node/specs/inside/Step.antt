@@ -1,4 +1,4 @@
--- More on Step: what no promise of the program's speaks of.
+-- More on Step: what no promise of the program reaches.
 -- Source: MEMOCODE 2009 (a node takes a token for each input, gives one for each output when what it needs is there,
 -- and finishes the cycle when it has done both); ICCAD 2019 for memories that are served port by port.
 use Rattle.std.specs.Prelude.{◌≡◌, ℕ, ◌<◌, Some, None, false, IsSome, IfSome, All, length, slice_get, ⊤}
@@ -9,7 +9,7 @@ use Rattle.gg_node.specs.Machine.{Behaviour, RunsPiece, GivesColumn, KeepsLast, 
 use Rattle.gg_node.specs.inside.Machine.{due}
 use Rattle.gg_node.specs.Step.{AllFired, HasFields}
 
--- ---- when each may be done
+-- ---- when each step may be done
 
 -- a value has the type of an in
 abbrev pub FitsIn : Behaviour → ℕ → ℕ → Type 0
@@ -40,7 +40,7 @@ pub record MayFire (machine : Machine) (o : ℕ) : Type 0 where
 abbrev pub AllLatched : Machine → Type 0
 AllLatched machine = All (λ latch. IsSome latch) machine.latches
 
--- A port may be served: all outs have given their tokens, the port is the one that is due, and its fields have tokens.
+-- A port may be served: all outs have given their tokens, the port is due, and its fields have tokens.
 pub record MayServe (machine : Machine) (p : ℕ) : Type 0 where
   pub fired : AllFired machine
   pub due : due machine ≡ Some p

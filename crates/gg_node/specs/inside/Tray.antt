@@ -3,8 +3,8 @@ use Rattle.std.specs.Prelude.{ℕ, ◌<◌, ◌≤◌, length}
 use Rattle.std.specs.VecDeque.{deque_capacity}
 use Rattle.std.specs.declared.collections.VecDeque.{VecDeque}
 
--- These are the values that a tray of so many rows has kept when it is in this cycle: at most so many, at most one for
--- each cycle before, and there is room for so many.
+-- The values that a tray of `rows` rows has kept in this cycle: at most `rows` values, and at most one for each earlier
+-- cycle. There is room for `rows`.
 pub record IsWindow {Z : Type 0} (kept : VecDeque ℕ Z) (rows cycle : ℕ) : Type 0 where
   pub some : 0 < rows
   pub few : length kept.items ≤ rows

@@ -25,5 +25,5 @@ AccessKeepsBank =
     → IsBank memory bank
     -- What the access writes, if it does, is of the type of a word.
     → Brings signals (shape memory.word) access
-    -- So is what the access leaves.
+    -- The memory does so after the access too.
     → IsBank memory (after_access edges signals bank access)

@@ -5,7 +5,7 @@ use Rattle.gg_flat.specs.Line.{value_at}
 use Rattle.gg_flat.specs.Circuit.{FlatCircuit}
 use Rattle.gg_order.specs.needs.Needs.{AreNeeds}
 
--- some out-signals from a place on, at most 128
+-- at most 128 out-signals, and at least one, starting at a place
 pub record IsGroup (outs : List ℕ) (first : ℕ) (group : List ℕ) : Type 0 where
   pub some : 0 < length group
   pub most : length group ≤ 128

@@ -10,6 +10,6 @@ use Rattle.gg_flat.specs.State.{State}
 abbrev pub with_bank : State → ℕ → Bank → State
 with_bank state place bank = record { registers = state.registers; banks = slice_set state.banks place bank }
 
--- the lender ends with what the borrow leaves as the bank at this place; all else is as it was
+-- the lender ends with what the borrow leaves as the bank at this place; the rest is as it was
 abbrev pub LendsBank : MutBor State → ℕ → MutBor Bank → Fml
 LendsBank lender place lent = Lends state_type.the_row bank_type.the_row lender lent (with_bank lender.now place)

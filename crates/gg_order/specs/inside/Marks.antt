@@ -1,4 +1,4 @@
--- More on Marks: what no promise of the program's speaks of.
+-- More on Marks: what no promise of the program reaches.
 use Rattle.std.specs.Prelude.{◌≡◌, ℕ, List, map, Bool, true, slice_index_or, ◌⊎◌}
 use Rattle.gg_flat.specs.declared.piece.Driver.{Driver}
 use Rattle.gg_flat.specs.declared.piece.Driver.TheVariants.{Input}
@@ -11,6 +11,6 @@ pub record Marks (Named : ℕ → Type 0) (before after : List Bool) : Type 0 wh
   pub marked : (s : ℕ) → Named s → is_marked after s ≡ true
   pub only : (s : ℕ) → is_marked after s ≡ true → is_marked before s ≡ true ⊎ Named s
 
--- the driver of the signal at a place; past the end that of an input
+-- the driver of the signal at a place; past the end the driver of an input
 abbrev pub driver_of : List Signal → ℕ → Driver
 driver_of signals s = slice_index_or (map (λ signal. signal.driver) signals) s (Input 0)

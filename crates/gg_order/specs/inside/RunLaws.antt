@@ -22,7 +22,7 @@ RunsOnce =
     -- They are the same.
     → rows ≡ others
 
--- The same of runs from the opening.
+-- `RunsOnce` for runs from the opening.
 abbrev pub OpensOnce : Type 0
 OpensOnce =
     (circuit : FlatCircuit) (order : List ℕ) (columns : List (List ℕ)) (n : ℕ) (rows others : List (List ℕ))
@@ -44,7 +44,7 @@ RunsAlong =
     -- The rows that are computed along the order are a run.
     → IsRunFrom circuit start columns n (rows_from circuit order start columns n)
 
--- The same from the opening.
+-- `RunsAlong` for runs from the opening.
 abbrev pub OpensAlong : Type 0
 OpensAlong =
     (circuit : FlatCircuit) (order : List ℕ) (columns : List (List ℕ)) (n : ℕ)
@@ -92,5 +92,5 @@ LastRowsRun =
     (circuit : FlatCircuit) (start : Start) (columns : List (List ℕ)) (n more : ℕ) (rows : List (List ℕ))
     -- There is a run of n cycles and some more.
     → IsRunFrom circuit start columns (n + more) rows
-    -- The rows behind the first n are a run from the cycle and the state that those lead to.
+    -- The rows after the first n are a run from the cycle and the state that the first n lead to.
     → IsRunFrom circuit (after_rows circuit start (take n rows) n) columns more (drop n rows)

@@ -19,14 +19,14 @@ MarksReached circuit out marks = (s : ℕ) → (is_marked marks s ≡ true) ↔ 
 abbrev pub IsClosed : FlatCircuit → List Bool → Type 0
 IsClosed circuit marks = (a b : ℕ) → is_marked marks a ≡ true → Reads circuit a b → is_marked marks b ≡ true
 
--- The places from k on are done: what a marked signal there reads is marked.
+-- The places starting at k are done: what a marked signal there reads is marked.
 pub record IsWalk (circuit : FlatCircuit) (order : List ℕ) (out k : ℕ) (marks : List Bool) : Type 0 where
   pub count : length marks ≡ length circuit.signals
   pub only : (s : ℕ) → is_marked marks s ≡ true → Reaches circuit out s
   pub itself : is_marked marks out ≡ true
   pub closed : (j s : ℕ) → k ≤ j → j < length order → is_marked marks (value_at order j) ≡ true → Reads circuit (value_at order j) s → is_marked marks s ≡ true
 
--- What a signal reads is marked, if the signal itself was marked. Nothing else changes.
+-- What a signal reads is marked, if the signal itself was marked. No other mark changes.
 pub record ReadsMarked (circuit : FlatCircuit) (signal : ℕ) (before after : List Bool) : Type 0 where
   pub kept : (s : ℕ) → is_marked before s ≡ true → is_marked after s ≡ true
   pub read : (s : ℕ) → is_marked before signal ≡ true → Reads circuit signal s → is_marked after s ≡ true
@@ -37,7 +37,7 @@ pub record AreMarkedIns (circuit : FlatCircuit) (marks : List Bool) (k : ℕ) (n
   pub ascending : AllPairs (λ a b. a < b) needs
   pub exact : (place : ℕ) → Contains needs place ↔ ((place < k) × (is_marked marks (value_at circuit.ins place) ≡ true))
 
--- those of these places whose in-signals are marked
+-- the places of marked in-signals among these places, ascending
 pub record AreMarkedAmong (circuit : FlatCircuit) (marks : List Bool) (places needs : List ℕ) : Type 0 where
   pub ascending : AllPairs (λ a b. a < b) needs
   pub exact : (place : ℕ) → Contains needs place ↔ (Contains places place × (is_marked marks (value_at circuit.ins place) ≡ true))

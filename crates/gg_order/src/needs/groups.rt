@@ -4,7 +4,7 @@ ghost use Rattle.gg_order.specs.inside.Groups.{IsGroup};
 
 use crate::needs::marks::MOST;
 
-// The out-signals from a place on, at most 128 of them.
+// At most 128 out-signals, starting at a place.
 pub(crate) fn group_from(outs: &[u32], first: usize) -> &[u32]
     requires { first < length outs.now }
     ensures { IsGroup outs.now first result.now }

@@ -35,7 +35,7 @@ pub fn needs_of(alloc: Global, piece: &Piece) -> Result<Vec<Ids>, AllocError>
     Ok(needs)
 }
 
-// Adds what the out-signals of the next group need.
+// Adds the needs of the out-signals of the next group.
 fn add_group(alloc: Global, piece: &Piece, needs: &mut Vec<Ids>) -> Result<(), AllocError>
     requires formed { IsWellFormed piece.now }
     requires ordered { IsInOrder piece.now }

@@ -41,7 +41,7 @@ fn mark_reached(marks: &mut [u128], piece: &Piece, group: &[u32])
     hand_down(marks, piece, group);
 }
 
-// Gives each out-signal of a group its own mark.
+// Sets the own mark of each out-signal of a group.
 fn mark_outs(marks: &mut [u128], group: &[u32])
     requires known { All (λ s. s < length marks.old) group.now }
     requires few { length group.now ≤ 128 }

@@ -70,16 +70,16 @@ impl Bank {
         self.reads.as_slice()
     }
 
-    /// What a reader finds at this address if its enable has this value. It is 0 if the enable isn't 1, and past the
-    /// depth.
+    /// The word that a reader reads at this address if its enable has this value. It is 0 if the enable isn't 1, and
+    /// past the depth.
     pub fn word(&self, addr: u128, en: u128) -> u128
         ensures { result ≡ read_word self.now.words addr en }
     {
         find_word(self.words(), addr, en)
     }
 
-    /// Advances to what the memory holds after a tick with these edges, in which the signals have these values. Only
-    /// the words that its writers name are written.
+    /// Advances to what the memory holds after a tick with these edges, if the signals have these values. Only the
+    /// words that its writers name are written.
     ///
     /// The memory's fields are among these signals, and the bank is one of this memory.
     pub fn advance(&mut self, memory: &Memory, edges: &[bool], signals: &[u128])
@@ -130,7 +130,7 @@ impl Bank {
     }
 }
 
-// What a reader finds among the words.
+// The word that a reader reads among the words.
 fn find_word(words: &[u128], addr: u128, en: u128) -> u128
     ensures { result ≡ read_word words.now addr en }
 {

@@ -47,7 +47,7 @@ pub fn runs_along()
     ensures opening { OpensAlong }
 {}
 
-/// The opening is a state of the circuit. So is the state before each cycle of a run that starts from one.
+/// The opening is a state of the circuit, and each state before a cycle of a run is one if the run starts from one.
 pub fn states_typed()
     ensures opening { (circuit : FlatCircuit) → IsState circuit (opening circuit) }
     ensures at { StatesAreTyped }

@@ -76,7 +76,7 @@ impl State {
         self.banks.as_slice()
     }
 
-    /// What the memory at this place holds, to be changed. All else stays as it is.
+    /// What the memory at this place holds, to be changed. The rest stays as it is.
     pub fn bank_mut(&mut self, place: usize) -> &mut Bank
         requires { place < length self.old.banks }
         ensures* writes_back { sem 𝓛 (LendsBank self.entry place result) }
@@ -85,8 +85,8 @@ impl State {
         &mut self.banks[place]
     }
 
-    /// Advances to the state after a tick with these edges, in which the signals have these values. Edges are given by
-    /// clock, values by signal.
+    /// Advances to the state after a tick with these edges, if the signals have these values. Edges are given by clock,
+    /// values by signal.
     ///
     /// The piece is well formed. State and values have its counts and types. The scratch space has room for its lines
     /// (`scratch_of`). Only the words of a memory that its writers name are written.

@@ -1,4 +1,4 @@
-//! The values that drivers give, and those that registers take, computed without allocating.
+//! The values of drivers, and the next values of registers, computed without allocating.
 ghost use Rattle.std.specs.Prelude.{◌≡◌, ◌≤◌, length};
 ghost use Rattle.gg_bits.specs.Shape.{shape, Fits};
 ghost use Rattle.gg_flat.specs.inside.Line.{HasValue};

@@ -1,4 +1,4 @@
--- More on Building: what no promise of the program's speaks of.
+-- More on Building: what no promise of the program reaches.
 -- Source: this program's own. A part has its signals, registers and memories in the order of the lists that it is
 -- built from.
 use Rattle.std.specs.Prelude.{◌≡◌, ℕ, ◌<◌, List, [], ◌∷◌, ◌++◌, Option, length, map, take, slice_index_or, Contains}
@@ -15,7 +15,7 @@ use Rattle.gg_flat.specs.WellFormed.{IsClock, IsClockedMemory}
 use Rattle.gg_part.specs.Part.{IsFrom, RegisterBelow, MemoryBelow, in_whole}
 use Rattle.gg_flat.specs.Renaming.{renamed_memory, renamed_register}
 
--- a driver is that of an in-signal
+-- a driver is the driver of an in-signal
 abbrev pub IsInput : Driver → Type 0
 IsInput driver = (place : ℕ) × (driver ≡ Input place)
 

@@ -1,7 +1,7 @@
--- What can be chosen of a flat circuit as a part: signals, those of them that come from outside, those of them that
--- are given to the outside, and memories. All numbers are those of the whole circuit.
--- Source: FIRRTL Specification, "Circuit Definitions", "Instances" (a design is cut where its modules meet); MEMOCODE
--- 2009 (a synchronous design as a network of its parts).
+-- What can be chosen of a flat circuit as a part: signals, which of them come from outside, which of them are given to the outside, and
+-- memories. All numbers are the whole circuit's.
+-- Source: FIRRTL Specification, "Circuit Definitions", "Instances" (a design is cut where its modules meet); MEMOCODE 2009 (a synchronous
+-- design as a network of its parts).
 use Rattle.std.specs.Prelude.{◌≡◌, ◌≢◌, ℕ, ◌<◌, List, Some, length, slice_get, All, AllPairs, Contains}
 use Rattle.gg_flat.specs.declared.piece.Register.{Register}
 use Rattle.gg_flat.specs.declared.piece.Driver.{Driver}
@@ -10,7 +10,7 @@ use Rattle.gg_flat.specs.Circuit.{FlatCircuit, driver_at, readers_at, reader_at}
 use Rattle.gg_flat.specs.Reads.{NamesSignal, RegisterNames}
 use Rattle.gg_flat_tree.specs.Scoped.{memory_fields}
 
--- a driver names a memory: the one whose word or read register it gives
+-- a driver names a memory: its value is a word or a read register of the memory
 abbrev pub NamesMemory : Driver → ℕ → Type 0
 NamesMemory (Input place) m = ⊥
 NamesMemory (Held register) m = ⊥
@@ -18,11 +18,10 @@ NamesMemory (MemoryWord memory reader addr en) m = memory ≡ m
 NamesMemory (ReadRegister memory reader) m = memory ≡ m
 NamesMemory (Computed line) m = ⊥
 
--- A choice: signals of the whole circuit, each once, and memories of it, each once. `entries` has the chosen signals
--- that come from outside, each once. `exits` has those that are given to the outside. An in-signal of the whole
--- circuit comes from outside. For each other chosen signal, everything that its driver names is chosen too: signals,
--- the signals that its register names, and memories. A chosen memory has its fields among the chosen signals, and the
--- data of its readers doesn't come from outside.
+-- A choice: signals of the whole circuit, each once, and memories of it, each once. `entries` has the chosen signals that come from
+-- outside, each once. `exits` has the chosen signals that are given to the outside. An in-signal of the whole circuit comes from outside.
+-- For each other chosen signal, everything that its driver names is chosen too: signals, the signals that its register names, and memories.
+-- A chosen memory has its fields among the chosen signals, and the data of its readers doesn't come from outside.
 pub record IsChoice (whole : FlatCircuit) (globals entries exits memories : List ℕ) : Type 0 where
   pub within : All (λ s. s < length whole.signals) globals
   pub once : AllPairs (λ a b. a ≢ b) globals

@@ -1,6 +1,6 @@
 -- Which clocks of a part the registers and the memories of the whole circuit follow.
--- Source: FIRRTL Specification, "Clock" types (a register and a port of a memory follow one clock each), "Instances" (which clock an
--- instance's Clock input is, is said where the instance stands).
+-- Source: FIRRTL Specification, "Clock" types (a register and a port of a memory follow one clock each), "Instances" (an instance's Clock
+-- input is connected where the instance is declared).
 use Rattle.std.specs.Prelude.{◌≡◌, ℕ, ◌<◌, List, [], Option, None, ◌++◌, length, map, slice_index_or, Contains}
 use Rattle.gg_flat.specs.declared.memory.Memory.{Memory}
 use Rattle.gg_flat.specs.declared.piece.Register.{Register}
@@ -28,7 +28,7 @@ pub record AreTimed (whole : FlatCircuit) (globals entries memories : List ℕ) 
 
 -- ---- what a part's own registers and ports follow
 
--- the first `count` registers of a part follow what the table has for the registers with these numbers
+-- the first `count` registers of a part follow the clocks in the table at these numbers
 abbrev pub RegistersFollow : (held : List ℕ) (table : List (Option ℕ)) (count : ℕ) → List Register → Type 0
 RegistersFollow held table count registers = (r : ℕ) (any : Register) → r < count → (slice_index_or registers r any).clock ≡ slice_index_or table (value_at held r) None
 
@@ -36,7 +36,7 @@ RegistersFollow held table count registers = (r : ℕ) (any : Register) → r < 
 abbrev pub PortsFollow : List (Option ℕ) → Memory → Type 0
 PortsFollow ports memory = (p : ℕ) → p < length (clocks_of_ports memory) → slice_index_or (clocks_of_ports memory) p None ≡ slice_index_or ports p None
 
--- the ports of the first `count` memories of a part follow what the table has for the memories with these numbers
+-- the ports of the first `count` memories of a part follow the clocks in the table at these numbers
 abbrev pub MemoriesFollow : (numbers : List ℕ) (table : List (List (Option ℕ))) (count : ℕ) → List Memory → Type 0
 MemoriesFollow numbers table count memories = (m : ℕ) (any : Memory) → m < count → PortsFollow (slice_index_or table (value_at numbers m) []) (slice_index_or memories m any)
 

@@ -19,7 +19,7 @@ own_readers back ports readers = by_number (λ p reader. renamed_reader (own_by 
 abbrev pub own_writers : (back : ℕ → ℕ) → List (Option ℕ) → ℕ → List Writer → List Writer
 own_writers back ports n writers = by_number (λ p writer. renamed_writer (own_by back (slice_index_or ports p None)) writer) n writers
 
--- a memory, whose readers and then its writers have these clocks
+-- a memory; its readers, and then its writers, have these clocks
 abbrev pub own_memory : (back : ℕ → ℕ) → List (Option ℕ) → Memory → Memory
 own_memory back ports memory =
     record {

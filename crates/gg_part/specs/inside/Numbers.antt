@@ -3,8 +3,7 @@
 use Rattle.std.specs.Prelude.{◌≡◌, ℕ, ◌<◌, List, length}
 use Rattle.gg_flat.specs.Line.{value_at}
 
--- At each of the first `count` numbers of the list, the table has one of those places where the number is in the
--- list. Its other entries don't matter.
+-- At each of the first `count` numbers of the list, the table has a place of the number in the list. Its other entries don't matter.
 pub record ArePlaces (items : List ℕ) (count : ℕ) (places : List ℕ) : Type 0 where
   pub known : (k : ℕ) → k < count → value_at items k < length places
   pub within : (k : ℕ) → k < count → value_at places (value_at items k) < count

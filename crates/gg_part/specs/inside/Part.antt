@@ -1,4 +1,4 @@
--- More on Part: what no promise of the program's speaks of.
+-- More on Part: what no promise of the program reaches.
 -- Source: FIRRTL Specification, "Circuit Definitions", "Instances" (a design is cut where its modules meet); MEMOCODE
 -- 2009 (a synchronous design as a network of its parts).
 use Rattle.std.specs.Prelude.{ℕ, ◌<◌}

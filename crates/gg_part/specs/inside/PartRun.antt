@@ -1,5 +1,5 @@
--- More on PartRun: what no promise of the program's speaks of.
--- Source: MEMOCODE 2009: the values of a part are those of the same signals in the whole.
+-- More on PartRun: what no promise of the program reaches.
+-- Source: MEMOCODE 2009: the values of a part are the values of the same signals in the whole.
 use Rattle.std.specs.Prelude.{ℕ, List, map}
 use Rattle.gg_flat.specs.Line.{value_at}
 use Rattle.gg_flat.specs.Circuit.{FlatCircuit}

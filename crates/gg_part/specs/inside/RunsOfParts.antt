@@ -1,5 +1,5 @@
--- A run of a circuit has in it the runs of its parts.
--- Source: MEMOCODE 2009: the values of a part are those of the same signals in the whole.
+-- A run of a circuit contains the runs of its parts.
+-- Source: MEMOCODE 2009: the values of a part are the values of the same signals in the whole.
 use Rattle.std.specs.Prelude.{◌≡◌, ℕ, ◌<◌, List, Option, length}
 use Rattle.gg_flat.specs.Circuit.{FlatCircuit}
 use Rattle.gg_flat.specs.Clock.{Ratio}
@@ -36,9 +36,9 @@ PartsRunFromOpening =
     (ratios : List Ratio) (columns : List (List ℕ)) (n : ℕ) (rows : List (List ℕ))
     -- The part has these signals, registers and memories of the whole.
     → IsPart whole part globals held memories clocks
-    -- The whole has a run of n cycles, whose clocks have these ratios.
+    -- The whole has a run of n cycles with these ratios for its clocks.
     → IsRunFrom whole (clocked_start whole ratios) columns n rows
-    -- Then the values of the part's signals are a run of the part, whose clocks have the ratios of those that they follow.
+    -- Then the values of the part's signals are a run of the part. Each of its clocks has the ratio of the clock that it follows.
     → IsRunFrom part (clocked_start part (part_ratios clocks ratios)) (part_columns globals part rows) n (part_rows globals rows)
 
 -- A part can take the values of its in-signals as its inputs.
@@ -48,7 +48,7 @@ PartsTakeColumns =
     (ratios : List Ratio) (columns : List (List ℕ)) (n : ℕ) (rows : List (List ℕ))
     -- The part has these signals, registers and memories of the whole.
     → IsPart whole part globals held memories clocks
-    -- The whole has a run of n cycles, whose clocks have these ratios.
+    -- The whole has a run of n cycles with these ratios for its clocks.
     → IsRunFrom whole (clocked_start whole ratios) columns n rows
     -- Then the columns of the part's in-signals are inputs of the part for n cycles.
     → IsColumns part n (part_columns globals part rows)

@@ -1,4 +1,4 @@
--- More on Right: what no promise of the program's speaks of.
+-- More on Right: what no promise of the program reaches.
 -- Source: FIRRTL Specification (the settled cycle of gg_flat's `Settled`), signal by signal.
 use Rattle.std.specs.Prelude.{◌≢◌, ℕ, ◌<◌, length}
 use Rattle.gg_flat.specs.declared.piece.Driver.TheVariants.{Input}

@@ -1,4 +1,4 @@
--- More on Slots: what no promise of the program's speaks of.
+-- More on Slots: what no promise of the program reaches.
 -- Source: MEMOCODE 2009 (a node gets its inputs one by one, and gives each output as soon as it can).
 use Rattle.std.specs.Prelude.{ℕ, true, slice_set}
 use Rattle.gg_flat.specs.Line.{value_at}

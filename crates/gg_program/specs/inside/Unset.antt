@@ -1,4 +1,4 @@
--- More on Unset: what no promise of the program's speaks of.
+-- More on Unset: what no promise of the program reaches.
 -- Source: MEMOCODE 2009 (a node gives each output as soon as it can); that no assignment is evaluated twice in a cycle is
 -- this program's own.
 use Rattle.std.specs.Prelude.{ℕ, length}

@@ -1,4 +1,4 @@
--- What the stages of the reader stand for: the position of the next line, and the rows of the lines before it.
+-- The meaning of the reader's stages: the position of the next line, and the rows of the lines before it.
 use Rattle.std.specs.Prelude.{◌≡◌, ℕ, ◌+◌, ◌<◌, List, [], ◌∷◌, ◌++◌, length, Option, None, Some, Result, Ok, Err, Bool, true, false, MatchOption}
 use Rattle.gg_lex.specs.declared.token.LexedLine.{LexedLine}
 use Rattle.gg_lex.specs.declared.token.Tok.{Tok}
@@ -45,7 +45,7 @@ open_row register = numbered register.line (RegisterOpenRow register.name regist
 abbrev pub reset_row : Reset → Numbered
 reset_row reset = numbered reset.line (ResetRow reset.condition reset.init)
 
--- the rows of the lines so far, without the version's, are those of the stage's circuit
+-- the rows of the lines so far, without the version's, are the rows of the stage's circuit
 abbrev pub IsBuilt : Stage → List Numbered → Type 0
 IsBuilt Start rows = rows ≡ []
 IsBuilt Version rows = without_version rows ≡ []
@@ -70,7 +70,7 @@ IsStage (Statements circuit) n = 0 < length circuit.modules
 IsStage (Fields circuit) n = (0 < length circuit.modules) × IsOpenToFields circuit.modules
 IsStage (Open circuit register) n = (0 < length circuit.modules) × (register.line < n) × AreNamesOfRegister register
 
--- the stage after these rows, the last of which is on line n
+-- the stage after these rows; the last of them is on line n
 pub record IsAfter (stage : Stage) (to : Option LinePlace) (n : ℕ) (rows : List Numbered) (next : Stage) : Type 0 where
   pub there : to ≡ Some (stage_place next)
   pub stays : IsStage next (n + 1)
@@ -166,7 +166,7 @@ pub record IsRowStep (stage : Stage) (n : ℕ) (line : LineTokens) (next : Stage
   pub stays : IsStage next (n + 1)
   pub built : (before : List Numbered) → IsBuilt stage before → IsBuilt next (before ++ numbered n row ∷ [])
 
--- that stage, or that the line is no such row
+-- `IsRowStep`, or that the line is no such row
 abbrev pub IsPlaced : Stage → ℕ → LineTokens → Result Stage RowFault → Type 0
 IsPlaced stage n line (Ok next) = IsRowStep stage n line next
 IsPlaced stage n line (Err NoForm) = (row : Row) (next : LinePlace) → IsForm (stage_place stage) line row next → (IsTooDeep line.tokens → ⊥) → ⊥

@@ -55,12 +55,12 @@ abbrev pub Misses : {A : Type 0} → RowFault → Option A → Type 0
 Misses NoForm found = found ≡ None
 Misses NoMemory found = Unit {0}
 
--- a reader that returns `result` and leaves the tokens `left` found this
+-- a reader found this: it returns `result`, and leaves the tokens `left`
 abbrev pub Reads : {A B : Type 0} → (A → B) → Result A RowFault → List Tok → Option (B × List Tok) → Type 0
 Reads view (Ok value) left found = found ≡ Some (view value, left)
 Reads view (Err fault) left found = Misses fault found
 
--- a reader that passes over tokens
+-- a reader that passes over tokens found this
 abbrev pub Passes : Result (Unit {0}) RowFault → List Tok → Option (List Tok) → Type 0
 Passes (Ok value) left found = found ≡ Some left
 Passes (Err fault) left found = Misses fault found
@@ -89,7 +89,7 @@ name_at (Number w ∷ ts) = None
 name_at (Text w ∷ ts) = None
 name_at (Symbol mark ∷ ts) = None
 
--- the number that digits stand for
+-- the number of these digits; none if they are no natural number
 abbrev pub natural_of : List ℕ → Option ℕ
 natural_of digits = if is_natural digits then Some (digits_value 10 digits) else None
 
@@ -163,11 +163,11 @@ abbrev pub text_digits : List ℕ → Option Digits
 text_digits [] = None
 text_digits (b ∷ bs) = radix_of b >>= λ radix. signed_digits radix bs
 
--- the radix that the letter behind a `0` names
+-- the radix that this letter names after a `0`
 abbrev pub zero_radix : ℕ → Option Radix
 zero_radix b = if b == 100 then Some Decimal else radix_of b
 
--- the radix of a number, and its digits: behind `0` and a letter, or all of the bytes, in decimal
+-- the radix of a number and its digits: those after `0` and a letter, or all of the bytes, in decimal
 abbrev pub radix_or_decimal : Option Radix → List ℕ → List ℕ → Radix × List ℕ
 radix_or_decimal None all digits = (Decimal, all)
 radix_or_decimal (Some radix) all digits = (radix, digits)
@@ -178,7 +178,7 @@ split_radix [] = (Decimal, [])
 split_radix (b ∷ []) = (Decimal, b ∷ [])
 split_radix (b ∷ letter ∷ digits) = if b == 48 then radix_or_decimal (zero_radix letter) (b ∷ letter ∷ digits) digits else (Decimal, b ∷ letter ∷ digits)
 
--- a `-` may be before the radix, or else before the digits
+-- the digits of a literal's number; a `-` may be before the radix or before the digits, but not before both
 abbrev pub number_digits : List ℕ → Option Digits
 number_digits [] = None
 number_digits (b ∷ bs) =
@@ -197,7 +197,7 @@ digits_at (Symbol mark ∷ ts) = None
 abbrev pub literal_of : Kind → ℕ → Digits → Literal
 literal_of kind width d = record { kind = kind; width = width; radix = d.radix; negative = d.negative; digits = d.digits }
 
--- UInt<n>(number) or SInt<n>(number); nothing is said of whether the number fits the width
+-- UInt<n>(number) or SInt<n>(number), whether or not the number fits the width
 abbrev pub literal_at : List Tok → Option (Literal × List Tok)
 literal_at ts = kind_at ts >>= λ k. width_at k.1 >>= λ w. symbol_at OpenParen w.1 >>= λ t. digits_at t >>= λ d. symbol_at CloseParen d.1 >>= λ u. Some (literal_of k.0 w.0 d.0, u)
 
@@ -268,7 +268,7 @@ module _ (sub : List Tok → Option (Term × List Tok)) where
       if is_second OpenParen ts then call_at ts
       else (if is_second Less ts then (literal_at ts >>= λ l. Some (ConstantTerm l.0, l.1)) else (reference_at ts >>= λ r. Some (NamedTerm r.0, r.1)))
 
--- an expression with operations nested at most so deep
+-- an expression with operations nested at most this deep
 abbrev pub expr_at : ℕ → List Tok → Option (Term × List Tok)
 expr_at zero ts = None
 expr_at (suc depth) ts = form_at (expr_at depth) ts
@@ -367,7 +367,7 @@ text_at (Symbol mark ∷ ts) = None
 abbrev pub argument_at : List Tok → Option (Argument × List Tok)
 argument_at ts = choose (text_at ts) (λ t. Some (given.Text t.0, t.1)) (expression_at ts >>= λ e. Some (given.Value e.0, e.1))
 
--- the arguments read so far, then at most so many more, and the closing bracket
+-- the arguments read so far, then at most n more, and the closing bracket
 abbrev pub arguments_at : ℕ → List Argument → List Tok → Option (List Argument × List Tok)
 arguments_at zero before ts = None
 arguments_at (suc n) before ts =
@@ -445,7 +445,7 @@ connect_at ts = reference_at ts >>= λ r. symbol_at Comma r.1 >>= λ t. last_exp
 abbrev pub invalidate_at : List Tok → Option Row
 invalidate_at ts = reference_at ts >>= λ r. end_at r.1 >>= λ u. Some (InvalidRow r.0)
 
--- the row whose first word is this keyword, by the tokens after it
+-- the row that begins with this keyword, by the tokens after it
 abbrev pub body_at : Keyword → List Tok → Option Row
 body_at keyword.Version ts = version_at ts
 body_at keyword.Circuit ts = header_at ts >>= λ name. Some (CircuitRow name)

@@ -9,8 +9,8 @@ use Rattle.gg_tape.specs.declared.tape.Tape.{Tape}
 use Rattle.gg_tape.specs.inside.Cells.{Celled}
 use Rattle.gg_tape.specs.inside.Tape.{signals_of, IsTape}
 
--- the state and the values of the signals have the circuit's types, the tape tells its lines in the design's order, and there is room for each
--- of them
+-- the state and the values of the signals have the circuit's types, the tape has the circuit's lines in the design's order, and there is
+-- room for each of them
 pub record IsKept (design : Ordered) (state : State) (tape : Tape) (cells : Celled) (places : ℕ) : Type 0 where
   pub state_typed : IsState design.circuit state
   pub tape_is : IsTape design.circuit tape

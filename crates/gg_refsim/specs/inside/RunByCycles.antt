@@ -12,13 +12,13 @@ abbrev pub RunContinues : Type 0
 RunContinues =
     (circuit : FlatCircuit) (start : Start) (columns : List (List ℕ)) (n : ℕ) (rows : List (List ℕ))
     (before after : State) (inputs printed : List ℕ)
-    -- There is a cycle, with the edges of the tick behind the n cycles.
+    -- There is a cycle, with the edges of the tick after the n cycles.
     → (cycle : Cycle (edges_at start.ratios (later start.cycle n)) circuit before inputs printed after)
     -- There is a run of n cycles, and the cycle begins in the state that the run leads to.
     → IsRunFrom circuit start columns n rows → before ≡ state_at circuit start rows n
     -- The cycle has the inputs of its number.
     → inputs ≡ inputs_at columns (later start.cycle n)
-    -- The rows with that of the cycle behind them are a run.
+    -- The rows, followed by the cycle's, are a run.
     → IsRunFrom circuit start columns (n + 1) (rows ++ cycle.row ∷ [])
 
 -- The longer run leads to the state after that cycle.
@@ -26,9 +26,9 @@ abbrev pub StateContinues : Type 0
 StateContinues =
     (circuit : FlatCircuit) (start : Start) (columns : List (List ℕ)) (n : ℕ) (rows : List (List ℕ))
     (before after : State) (inputs printed : List ℕ)
-    -- There is a cycle, with the edges of the tick behind the n cycles.
+    -- There is a cycle, with the edges of the tick after the n cycles.
     → (cycle : Cycle (edges_at start.ratios (later start.cycle n)) circuit before inputs printed after)
     -- There is a run of n cycles, and the cycle begins in the state that the run leads to.
     → IsRunFrom circuit start columns n rows → before ≡ state_at circuit start rows n
-    -- The state after the cycle is that to which the rows with that of the cycle behind them lead.
+    -- The rows, followed by the cycle's, lead to the state after the cycle.
     → after ≡ state_at circuit start (rows ++ cycle.row ∷ []) (n + 1)

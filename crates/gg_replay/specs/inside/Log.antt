@@ -15,7 +15,7 @@ use Rattle.gg_net.specs.markings.Steps.{IsStep}
 abbrev pub AreOpening : Flow → List Machine → Type 0
 AreOpening flow machines = (m : ℕ) → m < length machines → IsOpening flow m (machine_at machines m)
 
--- the log of these channels before the first cycle: the tokens with which they open
+-- the log of these channels before the first cycle: for each the token that it opens with, if there is one
 abbrev pub opening_log : List Wire → List (List ℕ)
 opening_log wires = map (λ wire. opening_queue wire.first) wires
 
@@ -23,19 +23,19 @@ opening_log wires = map (λ wire. opening_queue wire.first) wires
 abbrev pub tokens_at : List (List ℕ) → ℕ → List ℕ
 tokens_at log c = slice_index_or log c []
 
--- The log has for each channel the first values of its list, as many as have entered it.
+-- The log has for each channel the values of its list that have entered it.
 pub record AreFronts (flow : Flow) (net : Network) (log : List (List ℕ)) : Type 0 where
   pub count : length log ≡ length net.wires
   pub each : (c : ℕ) → c < length net.wires → tokens_at log c ≡ take (entered net c) (list_at flow.lists c)
 
--- The log is one step late: it is that of the network before this step.
+-- The log is one step late: it is the log of the network before this step.
 pub record IsBehind (flow : Flow) (step : Option Event) (net : Network) (log : List (List ℕ)) : Type 0 where
   pub before : Network
   pub kept : Kept flow before
   pub done : IsStep before step net
   pub fronts : AreFronts flow before log
 
--- the log with which these channels open is right for the network of these machines before its first step
+-- the opening log of these channels is right for the network of these machines before its first step
 abbrev pub OpensWithFronts : Flow → List Machine → List Wire → (end : ℕ) → Type 0
 OpensWithFronts flow machines wires end =
     Kept flow (opening_net machines wires end) → AreOpening flow machines

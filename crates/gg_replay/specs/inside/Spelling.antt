@@ -1,4 +1,4 @@
--- More on Spelling: what no promise of the program's speaks of.
+-- More on Spelling: definitions that no promise of the program reaches.
 -- Source: this program's own form of a steps file.
 use Rattle.std.specs.Prelude.{◌≡◌, ◌≢◌, ℕ, ◌+◌, ◌<◌, ◌≤◌, true, List, ◌∷◌, ◌++◌, Some, All, AllPairs, codes, length, slice_get}
 use Rattle.gg_net.specs.declared.event.Event.{Event}
@@ -39,13 +39,13 @@ pub record AreUsable (names : List (List ℕ)) : Type 0 where
   pub plain : All HasNoBlank names
   pub inline : All HasNoFeed names
 
--- The names of channels can be used in a line, those of machines, and those of each machine's ports.
+-- The names of channels, of machines, and of each machine's ports can be used in a line.
 pub record IsUsable (naming : Naming) : Type 0 where
   pub channels : AreUsable naming.channels
   pub machines : AreUsable naming.machines
   pub ports : (machine : ℕ) → AreUsable (ports_at naming machine)
 
--- what an event is about has names
+-- the channel, machine or port of an event has a name
 abbrev pub HasNames : Naming → Event → Type 0
 HasNames naming (Latch channel) = channel < length naming.channels
 HasNames naming (Fire channel) = channel < length naming.channels

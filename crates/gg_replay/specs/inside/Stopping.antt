@@ -16,7 +16,7 @@ abbrev pub IsStop : Network → List (Option Event) → Network → ReplayFault 
 IsStop old steps new (Refused step cause) = StopsAt 1 old steps new (record { step = step; cause = cause })
 IsStop old steps new NoMemory = ⊤
 
--- the log is that of the network, if a step was refused
+-- after a refused step the log is right for the network
 abbrev pub KeepsLog : Flow → Network → List (List ℕ) → ReplayFault → Type 0
 KeepsLog flow net log (Refused step cause) = AreFronts flow net log
 KeepsLog flow net log NoMemory = ⊤

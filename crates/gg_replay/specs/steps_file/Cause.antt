@@ -1,4 +1,4 @@
--- The text of the cause for which a step wasn't done.
+-- The text of the cause of a refused step.
 -- Source: this program's own form. It is the cause's name, followed by what the cause is about, each after a space,
 -- with the names of a steps file.
 use Rattle.std.specs.Prelude.{ℕ, List, [], ◌∷◌, ◌++◌, Option, Some, None, codes, decimal, slice_get}
@@ -16,12 +16,12 @@ step_ports naming (Some (Fire channel)) = []
 step_ports naming (Some (Serve machine port)) = ports_at naming machine
 step_ports naming (Some (Finish machine)) = ports_at naming machine
 
--- the name of the port that is due; `-` if the number isn't that of a port, which means that no port is due
+-- the name of the port that is due; `-` if no port has the number, which means that no port is due
 abbrev pub due_name : Option (List ℕ) → List ℕ
 due_name None = codes "-"
 due_name (Some name) = name
 
--- The text of a cause. Ports are those of the machine that the step names.
+-- The text of a cause. Ports are ports of the machine that the step names.
 abbrev pub cause_text : Naming → Option Event → StepRefusal → List ℕ
 cause_text naming step Stranger = codes "Stranger"
 cause_text naming step Ended = codes "Ended"

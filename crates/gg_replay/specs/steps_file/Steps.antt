@@ -1,7 +1,7 @@
 -- A steps file: one step on each line.
 -- Source: this program's own form. A line is `latch CHANNEL`, `fire CHANNEL`, `serve MACHINE PORT` or `finish MACHINE`,
--- with one blank, a space or a tab, between words. Lines are those of gg_trace: each ends with LF or CR LF, and the
--- last line end is optional. A CR without an LF after it belongs to the line.
+-- with one blank, a space or a tab, between words. Lines are as in gg_trace: each ends with LF or CR LF, and the last
+-- line end is optional. A CR without an LF after it belongs to the line.
 use Rattle.std.specs.Prelude.{ℕ, List, [], ◌∷◌, Option, Some, None, if◌then◌else◌, codes, map, option_map}
 use Rattle.std.specs.Str.{bytes_eq}
 use Rattle.gg_net.specs.declared.event.Event.{Event}

@@ -4,7 +4,7 @@ use Rattle.std.specs.Prelude.{ℕ, List}
 use Rattle.std.specs.List.{slice_split}
 use Rattle.gg_trace.specs.Fields.{is_blank}
 
--- The words of a line: the parts before, between and after its blanks. So there is an empty word between two blanks in
--- a row, and beside a blank at an end of the line.
+-- The words of a line: the parts before, between and after its blanks. Therefore there is an empty word between two
+-- blanks in a row, and next to a blank at an end of the line.
 unfoldable pub words : List ℕ → List (List ℕ)
 words line = slice_split is_blank line

@@ -1,4 +1,4 @@
-//! The text of the cause for which a step wasn't done.
+//! The text of the cause of a refused step.
 
 ghost use Rattle.std.specs.Prelude.{◌≡◌, IfOk, string_bytes};
 ghost use Rattle.gg_replay.specs.steps_file.Cause.{cause_text};
@@ -7,10 +7,10 @@ use crate::steps_file::naming::StepNames;
 use gg_net::{Event, StepRefusal};
 use std::alloc::{AllocError, Global};
 
-/// The text of the cause for which a step wasn't done.
+/// The text of the cause of a refused step.
 ///
-/// It is the cause's name, followed by the name of what the cause is about, after a blank: a channel, or a port of the
-/// machine that the step names. For a full queue the number of tokens in it follows, after a blank, in decimal. A
+/// It is the cause's name, followed by the name of the channel or port of the cause, after a blank. A port is a port of
+/// the machine that the step names. For a full queue the number of tokens in it follows, after a blank, in decimal. A
 /// channel or port without a name is written with no bytes. The exception is the port that is due: without a name it is
 /// written `-`, which means that no port is due.
 ///

@@ -11,7 +11,7 @@ use std::marker::Model;
 // The words of a line that are still to be read. A contract sees the list of them.
 #[derive(Drop)]
 pub(crate) struct Words<'a> {
-    // what follows the last blank that was read, or None if the last word was read
+    // the rest of the line after the last blank that was read, or None if the last word was read
     rest: Option<&'a [u8]>,
 }
 
@@ -26,7 +26,7 @@ impl<'a> Model for Words<'a> {
     ghost view = { λ a. words_left (option_copied a.rest) };
 }
 
-// The first word, and what follows the blank after it, if there is a blank.
+// The first word, and the rest after its blank, if there is a blank.
 fn cut_word(line: &[u8]) -> (&[u8], Option<&[u8]>)
     ensures { words line.now ≡ result.0.now ∷ words_left (option_copied result.1) }
 {

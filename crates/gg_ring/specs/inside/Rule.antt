@@ -1,4 +1,4 @@
--- The rule of a ring: what its words hold and what its seats know, at every moment.
+-- The rule of a ring: its words and the knowledge of its seats, at every moment.
 -- Source: MEMOCODE 2009 (a queue holds the tokens that were put and not yet taken, in order, at most its bound); the
 -- usual ring between one producer and one consumer (Lamport 1983, "Specifying Concurrent Program Modules").
 use Rattle.std.specs.Prelude.{◌≡◌, ℕ, ◌+◌, ◌*◌, ◌/◌, ◌%◌, ◌<◌, ◌≤◌, Bool, true, false, List, length, slice_index}
@@ -10,15 +10,16 @@ use Rattle.gg_ring.specs.inside.Views.{spent}
 
 -- ---- words
 
--- the words of the place for value k, counted from 0, in a ring of so many places; word 0 is the head, word 1 the tail
+-- the word of the lower half of value k, counted from 0, in a ring of `places` places; word 0 is the head, word 1 the
+-- tail
 abbrev pub low_word : ℕ → ℕ → ℕ
 low_word places k = 2 + 2 * (k % places)
 
--- the word of the upper half; that of the lower half is the one before it
+-- the word of the upper half, which is after the word of the lower half
 abbrev pub high_word : ℕ → ℕ → ℕ
 high_word places k = 3 + 2 * (k % places)
 
--- the halves of a value of 128 bits
+-- the lower 64 bits of a value of 128 bits
 abbrev pub low : ℕ → ℕ
 low value = value % 18446744073709551616
 
@@ -26,11 +27,11 @@ low value = value % 18446744073709551616
 abbrev pub high : ℕ → ℕ
 high value = value / 18446744073709551616
 
--- the halves of the stream's value k stand in their words
+-- the lower half of the stream's value k is in its word
 abbrev pub StandsLow : List ℕ → ℕ → List ℕ → ℕ → Type 0
 StandsLow words places stream k = slice_index words (low_word places k) ≡ low (slice_index stream k)
 
--- the upper half of value k stands in its word
+-- the upper half of value k is in its word
 abbrev pub StandsHigh : List ℕ → ℕ → List ℕ → ℕ → Type 0
 StandsHigh words places stream k = slice_index words (high_word places k) ≡ high (slice_index stream k)
 
@@ -50,7 +51,7 @@ pub record Laid (words : List ℕ) (places : ℕ) (stream : List ℕ) (head tail
 
 -- ---- seats
 
--- What the seat that puts knows. The halves that it has stored are those of the next value.
+-- What the seat that puts knows: its stream, its counts, and how many halves of the next value it has stored.
 pub record FitsPut (words : List ℕ) (places : ℕ) (stream : List ℕ) (head tail : ℕ) (v : View) : Type 0 where
   pub stream_is : v.stream ≡ stream
   pub capacity_is : v.capacity ≡ places
@@ -61,7 +62,7 @@ pub record FitsPut (words : List ℕ) (places : ℕ) (stream : List ℕ) (head t
   pub first : 0 < v.stored → StandsLow words places stream tail
   pub second : 1 < v.stored → StandsHigh words places stream tail
 
--- What the seat that takes knows. The halves that it has loaded are those of the next value.
+-- What the seat that takes knows: its stream, its counts, and the halves of the next value that it has loaded.
 pub record FitsTake (places : ℕ) (stream : List ℕ) (head tail : ℕ) (v : View) : Type 0 where
   pub stream_is : v.stream ≡ stream
   pub capacity_is : v.capacity ≡ places
@@ -84,7 +85,7 @@ There may views id = (v : View) × (get_elem? views id ≡ some v) × (may v ≡
 
 -- Just one seat puts and just one takes; while no two threads share the ring, one seat does both.
 pub record Holds (places : ℕ) (s : State (Unit {0}) View) : Type 0 where
-  -- the seat that puts, and the one that takes
+  -- the seat that puts, and the seat that takes
   pub putter : ℕ
   pub taker : ℕ
   pub stream : List ℕ

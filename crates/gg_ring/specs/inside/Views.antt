@@ -1,4 +1,4 @@
--- What the seats of a ring know, and how each kind of step changes it. Each step counts as one move.
+-- The knowledge of a ring's seats, and how each kind of step changes it. Each step counts as one move.
 -- Source: the usual ring between one producer and one consumer (Lamport 1983, "Specifying Concurrent Program Modules"):
 -- one counts what was put, the other what was taken. What a seat notes of its own steps is this program's.
 use Rattle.std.specs.Prelude.{ℕ, ◌+◌, true, false, List, []}

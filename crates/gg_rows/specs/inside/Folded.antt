@@ -1,10 +1,10 @@
--- What is kept of the first rows of a demo.
+-- The fold of the first rows of a demo.
 -- Source: this program's own.
 use Rattle.std.specs.Prelude.{◌≡◌, ℕ, ◌-◌, ◌<◌, List, slice_index}
 use Rattle.gg_rows.specs.declared.fold.Fold.{Fold}
 use Rattle.gg_rows.specs.SummaryText.{folded}
 
--- It tells of the first n values of these columns.
+-- The fold of the first n values of these columns.
 pub record IsFolded (ys zs : List ℕ) (n : ℕ) (fold : Fold) : Type 0 where
   pub last_y : 0 < n → fold.last_y ≡ slice_index ys (n - 1)
   pub last_z : 0 < n → fold.last_z ≡ slice_index zs (n - 1)

@@ -1,4 +1,4 @@
--- What holds of the networks of a plan: before the first step, as long as their frame stays, and of what comes to their trays.
+-- Laws of a plan's networks: before the first step, as long as their frame stays, and of the values that come to their trays.
 -- Source: MEMOCODE 2009 (the k-th token of a queue is the value of its signal in cycle k, in whatever order the nodes go on).
 use Rattle.std.specs.Prelude.{◌≡◌, ℕ, ◌+◌, ◌<◌, ◌≤◌, List, length, take}
 use Rattle.gg_flat.specs.Run.{Start}
@@ -14,22 +14,22 @@ use Rattle.gg_rows.specs.Rows.{TraysKeep}
 use Rattle.gg_rows.specs.inside.Rows.{outputs_in}
 use Rattle.gg_build.specs.StandsAt.{IsNetOfPlan}
 
--- All that holds of a network at all times holds of a plan's network before its first step.
+-- A plan's network before its first step has the invariant `Kept`.
 abbrev pub OpeningsAreKept : Type 0
 OpeningsAreKept =
     (plan : Plan) (start : Start) (columns : List (List ℕ)) (n : ℕ) (flow : Flow) (run : IsToRunFrom plan start columns n flow) (net : Network)
     -- The plan is to be run from this start, and this is its network before the first step.
     → IsOpeningFrom plan start (run_token run) columns n net
-    -- So it is kept.
+    -- It is kept.
     → Kept flow net
 
 -- A network of a plan stays one as long as its frame stays.
 abbrev pub NetsStayOfThePlan : Type 0
 NetsStayOfThePlan =
     (plan : Plan) (start : Start) (token : ℕ → ℕ) (columns : List (List ℕ)) (n : ℕ) (old new : Network)
-    -- The old network is one of the plan, and the new one has its frame.
+    -- The old network is the plan's, and the new one has its frame.
     → IsNetOfPlan plan start token columns n old → frame_of new ≡ frame_of old
-    -- So the new one is one of the plan.
+    -- The new one is the plan's too.
     → IsNetOfPlan plan start token columns n new
 
 -- Host steps bring to the trays the outputs of the circuit, for each cycle of a window.
@@ -38,12 +38,12 @@ TraysGetTheOutputs =
     (plan : Plan) (start : Start) (columns : List (List ℕ)) (n : ℕ) (flow : Flow) (run : IsToRunFrom plan start columns n flow) (opening net : Network) (upto t : ℕ)
     -- `opening` is the plan's network before its first step, and `net` goes on from it.
     → IsOpeningFrom plan start (run_token run) columns n opening → Kept flow net → frame_of net ≡ frame_of opening
-    -- All machines of `net` stand at the end of a window, and t is one of its cycles.
+    -- All machines of `net` are at the end of a window, and t is one of its cycles.
     → AllStandAt upto net → start.cycle ≤ t → t < upto → upto ≤ t + tray_rows
-    -- The outputs of the plan's circuit in cycle t come to the trays that no bridge has taken, and nothing else does.
+    -- Exactly the outputs of the plan's circuit in cycle t come to the trays that no bridge has taken.
     → TraysKeep opening (first_kept_tray (plan_bridges run.design.circuit run.design.tree run.request)) t (outputs_in (plan_circuit run.design run.request run.models) run.rows t)
 
--- Whatever comes to the trays in a cycle, it is what the outputs of the circuit are in it.
+-- Whatever values come to the trays in a cycle are the outputs of the circuit in that cycle.
 abbrev pub TraysGetNothingElse : Type 0
 TraysGetNothingElse =
     (plan : Plan) (start : Start) (columns : List (List ℕ)) (n : ℕ) (flow : Flow) (run : IsToRunFrom plan start columns n flow) (opening : Network) (t : ℕ) (values : List ℕ)

@@ -1,5 +1,5 @@
--- More on Printed: what no promise of the program's speaks of.
--- Source: ICCAD 2019 (Golden Gate) for target cycles as rows; MEMOCODE 2009 (what a network has done is said by its counts; the
+-- More on Printed: definitions that no promise of the program reaches.
+-- Source: ICCAD 2019 (Golden Gate) for target cycles as rows; MEMOCODE 2009 (the counts of a network say what it has done; the
 -- k-th token of each queue is the value of its signal in cycle k, in whatever order the nodes go on).
 use Rattle.std.specs.Prelude.{ℕ, ◌≡◌, ◌<◌, ◌+◌, List, Bool, Option, None, Some, Result, Ok, IfOk, true, false, not, nat_lt, ◌&&◌, length, map, take, drop}
 use Rattle.gg_flat.specs.Clock.{Ratio}
@@ -17,11 +17,11 @@ use Rattle.gg_trace.specs.Printing.{row_line, text_from, trace_text}
 abbrev pub out_columns : FlatCircuit → (rows : List (List ℕ)) → List (List ℕ)
 out_columns circuit rows = map (column rows) circuit.outs
 
--- the columns of the first out-signals of a circuit in a run, one for each port; those behind them are the stops'
+-- the columns of the first out-signals of a circuit in a run, one for each port; the later ones are the stops'
 abbrev pub shown_columns : FlatCircuit → List Port → (rows : List (List ℕ)) → List (List ℕ)
 shown_columns circuit ports rows = map (column rows) (take (length ports) circuit.outs)
 
--- the columns of the out-signals behind them, which are the conditions of the stops
+-- the columns of the out-signals after the ports', which are the conditions of the stops
 abbrev pub stop_columns : FlatCircuit → List Port → (rows : List (List ℕ)) → List (List ℕ)
 stop_columns circuit ports rows = map (column rows) (drop (length ports) circuit.outs)
 
@@ -29,7 +29,7 @@ stop_columns circuit ports rows = map (column rows) (drop (length ports) circuit
 abbrev pub is_halt : List Ratio → FlatCircuit → List Port → (rows : List (List ℕ)) → (t : ℕ) → Bool
 is_halt stops circuit ports rows t = halts stops (stop_columns circuit ports rows) t
 
--- how many of the first n cycles of a run have a row: a stop ends it
+-- how many of the first n cycles of a run have a row: up to the first where a stop acts, or all
 abbrev pub rows_to : List Ratio → FlatCircuit → List Port → (rows : List (List ℕ)) → (n : ℕ) → ℕ
 rows_to stops circuit ports rows n = row_count (is_halt stops circuit ports rows) n
 
@@ -37,19 +37,19 @@ rows_to stops circuit ports rows n = row_count (is_halt stops circuit ports rows
 abbrev pub text_to : FlatCircuit → List Port → (rows : List (List ℕ)) → (n : ℕ) → List ℕ
 text_to circuit ports rows n = trace_text ports (shown_columns circuit ports rows) n
 
--- the text of the first n cycles of a run, to the row of the first of them in which a stop acts
+-- the text of the first n cycles of a run, up to the row of the first cycle where a stop acts
 abbrev pub text_of : List Ratio → FlatCircuit → List Port → (rows : List (List ℕ)) → (n : ℕ) → List ℕ
 text_of stops circuit ports rows n = text_to circuit ports rows (rows_to stops circuit ports rows n)
 
--- how many of n cycles of a run, from cycle `begin` on, have a row: a stop ends it
+-- how many of n cycles of a run, starting at cycle `begin`, have a row: up to the first where a stop acts, or all
 abbrev pub rows_since : List Ratio → FlatCircuit → List Port → (rows : List (List ℕ)) → (begin n : ℕ) → ℕ
 rows_since stops circuit ports rows begin n = row_count (λ k. is_halt stops circuit ports rows (begin + k)) n
 
--- the text of n cycles of a run from cycle `begin` on, to the row of the first of them in which a stop acts
+-- the text of n cycles of a run, starting at cycle `begin`, up to the row of the first cycle where a stop acts
 abbrev pub text_since : List Ratio → FlatCircuit → List Port → (rows : List (List ℕ)) → (begin n : ℕ) → List ℕ
 text_since stops circuit ports rows begin n = text_from ports (shown_columns circuit ports rows) begin (rows_since stops circuit ports rows begin n)
 
--- What rows are printed by: the ports whose values are shown, and the ratios of the clocks of the stops.
+-- The form of the rows: the ports that are shown, and the ratios of the clocks of the stops.
 pub record RowForm : Type 0 where
   pub ports : List Port
   pub stops : List Ratio
@@ -61,8 +61,8 @@ pub record PrintsRow {K : Type 0} (sink : Sink.Ghosts K) (stops : List Ratio) (p
   pub goes : IfOk answer (λ goes_on. goes_on ≡ not (acts stops cycle (drop (length ports) row)))
   pub on : SinkWentOn sink before after
 
--- The row of a cycle was looked at for a stop that acts, in a run of this many cycles. It is to go on if none acts, or if the cycle is the
--- last one. If it isn't to go on, the cycle is noted.
+-- `SeesStop` looks at the row of a cycle, in a run of this many cycles. It is to go on if no stop acts, or if the cycle is the last one. If it isn't
+-- to go on, the cycle is noted.
 pub record SeesStop (stops : List Ratio) (shown cycles : ℕ) (before : ℕ) (cycle : ℕ) (row : List ℕ) (after : ℕ) (answer : Result Bool Ending) : Type 0 where
   pub answers : answer ≡ Ok (not (acts stops cycle (drop shown row) && nat_lt (cycle + 1) cycles))
   pub goes : answer ≡ Ok true → after ≡ before
@@ -72,7 +72,7 @@ pub record SeesStop (stops : List Ratio) (shown cycles : ℕ) (before : ℕ) (cy
 abbrev pub ends_run : List Ratio → FlatCircuit → List Port → (rows : List (List ℕ)) → (cycles t : ℕ) → Bool
 ends_run stops circuit ports rows cycles t = is_halt stops circuit ports rows t && nat_lt (t + 1) cycles
 
--- the first of n cycles of which this holds, if there is one
+-- the first of n cycles with this property, if there is one
 abbrev pub IsFirst : (holds : ℕ → Bool) (n : ℕ) → Option ℕ → Type 0
 IsFirst holds n None = (t : ℕ) → t < n → holds t ≡ false
 IsFirst holds n (Some b) = (b < n) × (holds b ≡ true) × ((t : ℕ) → t < b → holds t ≡ false)

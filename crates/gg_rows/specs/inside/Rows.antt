@@ -1,4 +1,4 @@
--- More on Rows: what no promise of the program's speaks of.
+-- More on Rows: definitions that no promise of the program reaches.
 -- Source: MEMOCODE 2009 (the k-th token of a queue is the value of its signal in cycle k, so the sink of an output has the
 -- output's column, in whatever order the nodes go on); ICCAD 2019 (sinks at the outputs of a target).
 use Rattle.std.specs.Prelude.{◌≡◌, ℕ, ◌+◌, ◌<◌, ◌≤◌, List, Option, length, map, unwrap_or}
@@ -15,18 +15,18 @@ use Rattle.gg_cut_reference.specs.whole.Whole.{plan_circuit}
 
 -- ---- one tray
 
--- what a machine tells of a cycle: the value that it keeps, and 0 if it keeps none or is no tray
+-- the value that a machine with this behaviour keeps; 0 if it keeps none or is no tray
 abbrev pub told_by : Behaviour → Option ℕ → ℕ
 told_by (RunsPiece piece) kept = 0
 told_by (GivesColumn column) kept = 0
 told_by (KeepsLast rows) kept = unwrap_or kept 0
 
--- what a machine tells of this cycle
+-- the value of this cycle that a machine keeps; 0 if it keeps none or is no tray
 abbrev pub told_value : Machine → ℕ → ℕ
 told_value machine cycle = told_by machine.behaviour (kept_value machine cycle)
 
--- Machine m is a tray at the end of channel c, and still has the value of a cycle: the cycle is one of the last before
--- the one that it is in, as many as it keeps, and none before `begin`.
+-- Machine m is a tray at the end of channel c, and still has the value of a cycle: the cycle isn't before `begin`, and it is one of the last `rows`
+-- cycles before the machine's.
 pub record StillHas (net : Network) (m c begin cycle : ℕ) : Type 0 where
   pub there : m < length net.machines
   pub known : c < length net.wires

@@ -1,4 +1,4 @@
--- What is printed from a plan's network: the text of a run of the plan's circuit. And what is read from its trays for that.
+-- Printing from a plan's network: the text of a run of the plan's circuit, and the values that are read from its trays for it.
 -- Source: ICCAD 2019 (Golden Gate) for target cycles as rows; MEMOCODE 2009 (the k-th token of each queue is the value of its signal in
 -- cycle k, in whatever order the nodes go on).
 use Rattle.std.specs.Prelude.{◌≡◌, ℕ, ◌+◌, ◌-◌, ◌<◌, ◌≤◌, List, Option, Result, length}
@@ -33,7 +33,7 @@ IsFirstTray plan first =
     (design : Ordered) (request : Request) (models : Models) (default : ℕ) → IsPlan design request models default plan
     → first ≡ first_kept_tray (plan_bridges design.circuit design.tree request)
 
--- so many trays has the plan: they stand before the bridges
+-- this is the plan's number of trays; they come before the bridges
 abbrev pub IsTrayCount : Plan → ℕ → Type 0
 IsTrayCount plan count =
     (design : Ordered) (request : Request) (models : Models) (default : ℕ) → IsPlan design request models default plan
@@ -45,34 +45,34 @@ AreOutputsOf flow net first count cycle values =
     (plan : Plan) (start : Start) (columns : List (List ℕ)) (n upto : ℕ) (run : IsToRunFrom plan start columns n flow)
     -- The network is one of a plan that is to be run on this flow from this start.
     → IsNetOfPlan plan start (run_token run) columns n net → start.cycle ≤ cycle
-    -- It has so many trays, from number `first` on.
+    -- It has `count` trays, starting at number `first`.
     → AreTraysOf run first count
-    -- All machines stand at the end of a window, and the cycle is in it.
+    -- All machines are at the end of a window, and the cycle is in it.
     → AllStandAt upto net → cycle < upto → upto ≤ cycle + tray_rows
     → values ≡ outputs_in (plan_circuit run.design run.request run.models) run.rows cycle
 
--- ---- a network before its first step, from cycle `begin` on
+-- ---- a network before its first step, starting at cycle `begin`
 
--- The text of the run is printed on an output: a header, and the rows from cycle `begin` on.
+-- The text of the run is printed on an output: a header, and the rows starting at cycle `begin`.
 abbrev pub PrintsTheRest : {K T : Type 0} → Flow → (opening : Network) (begin first count : ℕ) → List Ratio → List Port → Sink.Ghosts K → (before after : K) → Result T Ending → Type 0
 PrintsTheRest flow opening begin first count stops ports sink before after result =
     (plan : Plan) (start : Start) (columns : List (List ℕ)) (n : ℕ) (run : IsToRunFrom plan start columns n flow)
-    -- The network is that of a plan which is to be run on this flow, and begins in this cycle.
+    -- The network is the opening network of a plan that is to be run on this flow, and begins in this cycle.
     → IsOpeningFrom plan start (run_token run) columns n opening → start.cycle ≡ begin
-    -- It has so many trays, from number `first` on, and the stops follow clocks of these ratios.
+    -- It has `count` trays, starting at number `first`, and the stops follow clocks of these ratios.
     → AreTraysOf run first count → stops ≡ plan_stops run.design run.request
-    -- The text has the run of the plan's circuit to cycle n, or to the first cycle in which a stop acts.
+    -- The text has the run of the plan's circuit to cycle n, or to the first cycle where a stop acts.
     → PrintsOn sink before after (text_since (plan_stops run.design run.request) (plan_circuit run.design run.request run.models) ports run.rows begin (n - begin)) result
 
 -- Host steps bring the values of these rows to the trays, and bring no others there.
 abbrev pub RestIsKept : Flow → (opening : Network) (begin first count : ℕ) → List Ratio → List Port → Type 0
 RestIsKept flow opening begin first count stops ports =
     (plan : Plan) (start : Start) (columns : List (List ℕ)) (n : ℕ) (run : IsToRunFrom plan start columns n flow)
-    -- The network is that of a plan which is to be run on this flow, and begins in this cycle.
+    -- The network is the opening network of a plan that is to be run on this flow, and begins in this cycle.
     → IsOpeningFrom plan start (run_token run) columns n opening → start.cycle ≡ begin
-    -- It has so many trays, from number `first` on, and the stops follow clocks of these ratios.
+    -- It has `count` trays, starting at number `first`, and the stops follow clocks of these ratios.
     → AreTraysOf run first count → stops ≡ plan_stops run.design run.request
-    -- The rows are as many as the text has, with a column for each out-signal of the plan's circuit.
+    -- There is a row for each row of the text, with a column for each out-signal of the plan's circuit.
     → RowsAreKept opening (first_kept_tray (plan_bridges run.design.circuit run.design.tree run.request)) begin
     (rows_since (plan_stops run.design run.request) (plan_circuit run.design run.request run.models) ports run.rows begin (n - begin))
     (out_columns (plan_circuit run.design run.request run.models) run.rows)
@@ -84,7 +84,7 @@ abbrev pub PrintsTheRun : {K T : Type 0} → Flow → Ordered → Plan → (colu
 PrintsTheRun flow design plan columns n ports sink before after result =
     -- The plan is one of the design, and is to be run on this flow from cycle 0 and zeros.
     (start : Start) (run : IsToRunFrom plan start columns n flow) → FromZeros run → run.design ≡ design
-    -- The text has the run of the plan's circuit to cycle n, or to the first cycle in which a stop acts.
+    -- The text has the run of the plan's circuit to cycle n, or to the first cycle where a stop acts.
     → PrintsOn sink before after (text_of (plan_stops run.design run.request) (plan_circuit run.design run.request run.models) ports run.rows n) result
 
 -- Host steps bring the values of these rows to the trays, and bring no others there.
@@ -92,19 +92,19 @@ abbrev pub RunIsKept : Flow → Ordered → Plan → (columns : List (List ℕ))
 RunIsKept flow design plan columns n ports =
     -- The plan is one of the design, and is to be run on this flow from cycle 0 and zeros.
     (start : Start) (run : IsToRunFrom plan start columns n flow) → FromZeros run → run.design ≡ design
-    -- The rows are as many as the text has, with a column for each out-signal of the plan's circuit.
+    -- There is a row for each row of the text, with a column for each out-signal of the plan's circuit.
     → AreKept run.design run.request plan columns n
     (rows_to (plan_stops run.design run.request) (plan_circuit run.design run.request run.models) ports run.rows n)
     (out_columns (plan_circuit run.design run.request run.models) run.rows)
 
--- This is the first cycle in which a stop ends a run of `cycles` cycles, if there is one.
+-- This is the first cycle where a stop ends a run of `cycles` cycles, if there is one.
 abbrev pub IsFirstStop : Flow → (opening : Network) (first count : ℕ) → List Ratio → (shown cycles : ℕ) → Option ℕ → Type 0
 IsFirstStop flow opening first count stops shown cycles stop =
     (plan : Plan) (start : Start) (columns : List (List ℕ)) (n : ℕ) (ports : List Port) (run : IsToRunFrom plan start columns n flow)
-    -- The network is that of a plan which is to be run on this flow, and begins in cycle 0.
+    -- The network is the opening network of a plan that is to be run on this flow, and begins in cycle 0.
     → IsOpeningFrom plan start (run_token run) columns n opening → start.cycle ≡ 0
-    -- It has so many trays, from number `first` on. The conditions of the stops are behind the first `shown` of their values, and the
-    -- stops follow clocks of these ratios.
+    -- It has `count` trays, starting at number `first`. The conditions of the stops are their values after the first `shown`. The stops follow clocks
+    -- of these ratios.
     → AreTraysOf run first count → shown ≡ length ports → stops ≡ plan_stops run.design run.request
-    -- The cycle is the first of the network's n cycles in which a stop ends the run of the plan's circuit.
+    -- The cycle is the first of the network's n cycles where a stop ends the run of the plan's circuit.
     → IsFirst (ends_run (plan_stops run.design run.request) (plan_circuit run.design run.request run.models) ports run.rows cycles) n stop

@@ -1,4 +1,4 @@
--- More on Sums: what no promise of the program's speaks of.
+-- More on Sums: definitions that no promise of the program reaches.
 -- Source: this program's own. MEMOCODE 2009 for steps and their count.
 use Rattle.std.specs.Prelude.{◌≡◌, ℕ, suc, List, ◌++◌, Bool, true, Result, Ok, length, slice_index}
 use Rattle.gg_build.specs.Build.{IsOpeningFrom, IsToRunFrom, run_token}
@@ -18,7 +18,7 @@ use Rattle.gg_io.specs.declared.endings.Ending.{Ending}
 use Rattle.gg_rows.specs.declared.sums.Sums.{Sums}
 use Rattle.gg_rows.specs.Sums.{output_column}
 
--- it tells of the first n rows of the first two out-signals
+-- the fold of the first n rows of the first two out-signals
 abbrev pub FoldsRows : FlatCircuit → (rows : List (List ℕ)) → (n : ℕ) → Fold → Type 0
 FoldsRows circuit rows n fold = IsFolded (output_column circuit rows 0) (output_column circuit rows 1) n fold
 
@@ -27,7 +27,7 @@ pub record FoldsRow (before : Fold) (cycle : ℕ) (row : List ℕ) (after : Fold
   pub goes : answer ≡ Ok true
   pub adds : (ys zs : List ℕ) (n : ℕ) → IsFolded ys zs n before → value_at row 0 ≡ slice_index ys n → value_at row 1 ≡ slice_index zs n → IsFolded ys zs (suc n) after
 
--- The sums are those of the plan's network before its first step, and of the rows of the reference circuit's run.
+-- The sums of the plan's network before its first step, and of the rows of the run of the plan's circuit.
 pub record AreSums {plan : Plan} {start : Start} {columns : List (List ℕ)} {n : ℕ} {flow : Flow} (run : IsToRunFrom plan start columns n flow) (sums : Sums) : Type 0 where
   pub net : Network
   pub opens : IsOpeningFrom plan start (run_token run) columns n net

@@ -1,11 +1,11 @@
--- Which machines of a plan are trays, by what they do.
+-- The machines of a plan that are trays, by their bodies.
 -- Source: ICCAD 2019 (sinks at the outputs of a target).
 use Rattle.std.specs.Prelude.{Bool, true, false}
 use Rattle.gg_cut_plan.specs.declared.plan.Body.{Body}
 use Rattle.gg_cut_plan.specs.declared.plan.Body.TheVariants.{Cut, Memory, Source, Tray, Bridge}
 use Rattle.gg_cut_plan.specs.declared.plan.Machine.{Machine}
 
--- whether what a machine does is neither that of a tray nor that of a bridge
+-- whether a machine with this body is neither a tray nor a bridge
 abbrev pub body_is_inner : Body → Bool
 body_is_inner (Cut part) = true
 body_is_inner (Memory part) = true
@@ -13,7 +13,7 @@ body_is_inner (Source place) = true
 body_is_inner Tray = false
 body_is_inner (Bridge bridge) = false
 
--- whether what a machine does is that of a tray
+-- whether a machine with this body is a tray
 abbrev pub body_is_tray : Body → Bool
 body_is_tray (Cut part) = false
 body_is_tray (Memory part) = false
@@ -21,7 +21,7 @@ body_is_tray (Source place) = false
 body_is_tray Tray = true
 body_is_tray (Bridge bridge) = false
 
--- a machine that is neither a tray nor a bridge, and a tray
+-- whether a machine is neither a tray nor a bridge
 abbrev pub is_inner : Machine → Bool
 is_inner machine = body_is_inner machine.body
 

@@ -1,4 +1,4 @@
--- What a contract sees of the seats of a queue.
+-- The seats of a queue, as contracts see them.
 use Rattle.std.specs.Prelude.{◌≡◌}
 use Rattle.gg_link.specs.Seats.{SeatState, seat_state}
 use Rattle.crossbeam_queue.specs.Passes.{view, IsPassOf}
@@ -6,11 +6,11 @@ use Rattle.gg_ruled.specs.declared.ruled.PutSeat.{PutSeat}
 use Rattle.gg_ruled.specs.declared.ruled.TakeSeat.{TakeSeat}
 use Rattle.gg_ruled.specs.declared.ruled.Ruled.{Ruled}
 
--- what is seen of a seat that puts: the stream and the capacity of its queue, and its counts
+-- a seat that puts, as contracts see it: the stream and the capacity of its queue, and its counts
 abbrev pub put_state : PutSeat → SeatState
 put_state s = seat_state (view s.pass).stream (view s.pass).capacity s.puts s.seen s.looks
 
--- the same of a seat that takes
+-- a seat that takes, as contracts see it: the stream and the capacity of its queue, and its counts
 abbrev pub take_state : TakeSeat → SeatState
 take_state s = seat_state (view s.pass).stream (view s.pass).capacity s.takes s.seen s.looks
 

@@ -1,4 +1,4 @@
--- More on FaultText: what no promise of the program's speaks of.
+-- More on FaultText: what no promise of the program reaches.
 use Rattle.std.specs.Prelude.{ℕ, List, codes}
 use Rattle.gg_shape.specs.declared.fault.CheckFault.{CheckFault}
 use Rattle.gg_shape.specs.declared.fault.CheckFault.TheVariants as refusals

@@ -1,4 +1,4 @@
--- More on Faults: what no promise of the program's speaks of.
+-- More on Faults: what no promise of the program reaches.
 -- Source: this program's own.
 use Rattle.std.specs.Prelude.{◌≡◌, List, [], Some, Result, Ok, Err}
 use Rattle.gg_shape_names.specs.Along.{first}

@@ -1,4 +1,4 @@
--- More on Judged: what no promise of the program's speaks of.
+-- More on Judged: what no promise of the program reaches.
 -- Source: this program's own; what the faults are is defined in Shape, Rings and Memories.
 use Rattle.std.specs.Prelude.{List, ◌++◌, Result, Ok, Err}
 use Rattle.gg_ast.specs.Tree.{CircuitTree}
@@ -26,12 +26,12 @@ reference_faults circuit =
     ++ (in_modules unconnected_sinks circuit
     ++ in_modules connected_sources circuit))
 
--- F7 alone: Ok exactly if there is no ring, otherwise a ring of the circuit
+-- a refusal for F7 reports a ring of the circuit; `NoMemory` has no cause in the circuit
 abbrev pub RefusesRing : CircuitTree → CheckFault → Type 0
 RefusesRing circuit (F fault) = TellsRing circuit fault
 RefusesRing circuit NoMemory = Unit {0}
 
--- the check of rings returns Ok if there is none
+-- the check of rings returns Ok if there is no ring, and otherwise reports one
 abbrev pub AnswersRing : {A : Type 0} → CircuitTree → Result A CheckFault → Type 0
 AnswersRing circuit (Ok _) = HasNoRing circuit
 AnswersRing circuit (Err refusal) = RefusesRing circuit refusal

@@ -47,7 +47,7 @@ pub record IsBefore (circuit : CircuitTree) (before : Before) : Type 0 where
 
 -- ---- what is connected
 
--- a key stands for a reference
+-- the reference of a key
 abbrev pub reference_of : Key → Reference
 reference_of (Local a) = references.Local a.now
 reference_of (PortOf a b) = references.PortOf a.now b.now
@@ -68,7 +68,7 @@ pub record TellsFirst (modules : List ModuleTree) (count : ℕ) (all : List (Lis
 
 -- ---- what a declaration leaves unconnected
 
--- whether a direction is that of an input
+-- whether a direction is an input's
 abbrev pub is_in : Direction → Bool
 is_in Input = true
 is_in Output = false
@@ -94,12 +94,12 @@ unconnected_input instance connected line port = unconnected_entry connected lin
 abbrev pub unconnected_of_field : PortKind → List ℕ → (Reference → Bool) → ℕ → List ℕ → PortField → List Fault
 unconnected_of_field kind memory connected line port field = unconnected_entry connected line (port_field memory port kind field)
 
--- the same of all fields of a port
+-- F5 at each field of a memory's port that must be connected and isn't
 abbrev pub unconnected_of_port : PortKind → List ℕ → (Reference → Bool) → ℕ → List ℕ → List Fault
 unconnected_of_port kind memory connected line port =
     flat_map (unconnected_of_field kind memory connected line port) (port_fields kind)
 
--- the same of all ports of one kind that a field of the memory names
+-- F5 at each such field of the ports of one kind that a field of the memory names
 abbrev pub unconnected_in_field : PortKind → List ℕ → (Reference → Bool) → ℕ → Field → List Fault
 unconnected_in_field kind memory connected line field =
     flat_map (unconnected_of_port kind memory connected line) (names_as kind field.kind)

@@ -1,4 +1,4 @@
--- More on Memory: what no promise of the program's speaks of.
+-- More on Memory: what no promise of the program reaches.
 use Rattle.std.specs.Prelude.{ℕ, List, [], ◌∷◌, Option, Some, None, if◌then◌else◌}
 use Rattle.std.specs.Str.{bytes_eq}
 use Rattle.gg_shape_names.specs.declared.role.PortField.{PortField}

@@ -1,4 +1,4 @@
--- More on Namespace: what no promise of the program's speaks of.
+-- More on Namespace: what no promise of the program reaches.
 use Rattle.std.specs.Prelude.{◌≡◌, ℕ, List, Option, length, take}
 use Rattle.gg_ast.specs.declared.expression.Reference.{Reference}
 use Rattle.gg_ast.specs.declared.statement.StmtKind as statements
@@ -6,7 +6,7 @@ use Rattle.gg_ast.specs.Tree.{ModuleTree}
 use Rattle.gg_shape_names.specs.declared.role.Role.{Role}
 use Rattle.gg_shape_names.specs.Namespace.{meaning_of, names_after, scope_after}
 
--- ---- declared names alone
+-- ---- declared names only
 
 -- all names that a module declares, in the order of the file
 abbrev pub names_in : ModuleTree → List (List ℕ)

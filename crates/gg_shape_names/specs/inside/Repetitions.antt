@@ -1,4 +1,4 @@
--- More on Repetitions: what no promise of the program's speaks of.
+-- More on Repetitions: what no promise of the program reaches.
 use Rattle.std.specs.Prelude.{◌≡◌, List, [], Result, Ok, Err, Some}
 use Rattle.gg_shape_names.specs.declared.fault.Repetition.{Repetition}
 use Rattle.gg_shape_names.specs.declared.fault.NamesFault.{NamesFault}

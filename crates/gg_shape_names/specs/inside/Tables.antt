@@ -1,4 +1,4 @@
--- What the tables of a namespace say of the modules.
+-- The meaning of the tables of a namespace.
 -- Source: FIRRTL Specification, "Namespaces"; the tables are this program's own.
 use Rattle.std.specs.Prelude.{◌≡◌, ℕ, ◌<◌, ◌^◌, ◌||◌, List, [], ◌∷◌, Option, Some, None, map, flat_map, length, take, slice_index_or, if◌then◌else◌}
 use Rattle.std.specs.List.{list_any}
@@ -75,7 +75,7 @@ role_of_field readers writers port field =
     or_else (if list_any (bytes_eq port) readers then field_role Reader (field_of field (port_fields Reader)) else None)
     (if list_any (bytes_eq port) writers then field_role Writer (field_of field (port_fields Writer)) else None)
 
--- what a reference names whose first name has this declaration
+-- what a reference names if its first name has this declaration
 abbrev pub through : List ModuleTree → Declared → Reference → Option Role
 through modules declared (Local name) = Some (own_role declared)
 through modules (Instance (Some k)) (PortOf instance port) = role_of_port_named port (module_at modules k).ports
@@ -86,12 +86,12 @@ through modules (Memory readers writers) (FieldOf memory port field) = role_of_f
 through modules (Plain role) (FieldOf memory port field) = None
 through modules (Instance k) (FieldOf memory port field) = None
 
--- the same where the first name may not be declared; then the reference names nothing
+-- `through` for a first name that may not be declared; if it isn't, the reference names nothing
 abbrev pub through_found : List ModuleTree → Option Declared → Reference → Option Role
 through_found modules None r = None
 through_found modules (Some declared) r = through modules declared r
 
--- what a table says of a reference
+-- what a reference names by a table
 abbrev pub found : List ModuleTree → List (List ℕ × Declared) → Reference → Option Role
 found modules table r = through_found modules (find_word (first_name r) table) r
 
@@ -102,7 +102,7 @@ IsPlaced modules (Instance None) = Unit {0}
 IsPlaced modules (Plain role) = Unit {0}
 IsPlaced modules (Memory readers writers) = Unit {0}
 
--- the same of each entry of a table
+-- `IsPlaced` for each entry of a table
 abbrev pub ArePlaced : List ModuleTree → List (List ℕ × Declared) → Type 0
 ArePlaced modules [] = Unit {0}
 ArePlaced modules (e ∷ es) = IsPlaced modules e.1 × ArePlaced modules es
@@ -114,16 +114,16 @@ pub record TellsScope (modules : List ModuleTree) (ports : List Port) (statement
   pub placed : ArePlaced modules table
   pub tells : (n : ℕ) (r : Reference) → entry_of r (scope_after modules ports (take n statements)) ≡ found modules (take (length (names_after ports (take n statements))) table) r
 
--- the table is that of a whole module
+-- the table is the table of a whole module
 abbrev pub TellsModule : List ModuleTree → ModuleTree → List (List ℕ × Declared) → Type 0
 TellsModule modules m table = TellsScope modules m.ports m.statements table
 
--- the first tables are those of the first modules
+-- the first tables are the tables of the first modules
 pub record AreTold (modules : List ModuleTree) (count : ℕ) (tables : List (List (List ℕ × Declared))) : Type 0 where
   pub one_each : length tables ≡ count
   pub tell : (k : ℕ) → k < count → TellsModule modules (module_at modules k) (slice_index_or tables k [])
 
--- the tables of a circuit in which no name comes twice
+-- the tables of a circuit without repeated names
 pub record AreTables (circuit : CircuitTree) (tables : List (List (List ℕ × Declared))) : Type 0 where
   pub few : length circuit.modules < 2 ^ 32
   pub once : repetitions circuit ≡ []

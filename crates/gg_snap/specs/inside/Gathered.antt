@@ -1,6 +1,5 @@
 -- The state of a circuit, gathered from the machines of a network and from the queues of its pipes.
--- Source: MEMOCODE 2009 (the values of a part are those of the same registers and memories in the whole; a pipe's register is the token
--- in its channel).
+-- Source: MEMOCODE 2009 (the registers and memories of a part have their values in the whole; a pipe's register is the token in its channel).
 use Rattle.std.specs.Prelude.{◌≡◌, ℕ, ◌-◌, ◌<◌, ◌≤◌, List, [], All, Bool, Contains, drop, filter, length, map, slice_index_or, true, ⊤, ◌&&◌, ◌==◌}
 use Rattle.std.specs.List.{list_any, range_with_len}
 use Rattle.gg_flat.specs.Circuit.{FlatCircuit}
@@ -21,7 +20,7 @@ pub record IsRunning (machine : Machine) : Type 0 where
   pub piece : FlatCircuit
   pub is : machine.behaviour ≡ RunsPiece piece
 
--- The registers of the circuit that a machine with this body holds. A bridge has none of them: its model's are its own.
+-- The registers of the circuit that a machine with this body holds. A bridge has none of them: its model has its own.
 abbrev pub held_by : Body → List ℕ
 held_by (Cut part) = part.held
 held_by (Memory part) = []
@@ -37,7 +36,7 @@ kept_by (Source place) = []
 kept_by Tray = []
 kept_by (Bridge bridge) = []
 
--- A machine is in its part of a state. The registers and memories of the part are among as many.
+-- A machine is in its part of a state. The numbers of its registers are below `registers`, and the numbers of its memories below `banks`.
 pub record HoldsPart (whole : State) (registers banks : ℕ) (held memories : List ℕ) (machine : Machine) : Type 0 where
   pub running : IsRunning machine
   pub part : IsPartState whole held memories machine.state
@@ -100,7 +99,7 @@ pub record HaveNumbers (channels : List Channel) (numbers : List ℕ) (room : �
   pub is : (s : ℕ) → s < length numbers → value_at numbers s ≡ pipe_number channels s
   pub fits : (s : ℕ) → is_piped_by channels s ≡ true → pipe_number channels s < room
 
--- ---- all of it
+-- ---- the whole state
 
 -- some machine of the plan holds register r
 pub record IsHeldBy (plan : Plan) (r : ℕ) : Type 0 where
@@ -114,8 +113,7 @@ pub record IsKeptBy (plan : Plan) (k : ℕ) : Type 0 where
   pub known : at_machine < length plan.machines
   pub keeps : Contains (kept_by (machine_in plan at_machine).body) k
 
--- The machines and the queues of the network have all of a state: of each register and each memory of the circuit, and of the pipes
--- behind them.
+-- The machines and the queues of the network have all of a state: each register and each memory of the circuit, and the pipes after them.
 pub record IsAll (circuit : FlatCircuit) (plan : Plan) (net : Network) (whole : State) : Type 0 where
   pub register_count : length circuit.registers ≤ length whole.registers
   pub bank_count : length whole.banks ≡ length circuit.memories
@@ -123,12 +121,12 @@ pub record IsAll (circuit : FlatCircuit) (plan : Plan) (net : Network) (whole : 
   pub memories : (k : ℕ) → k < length circuit.memories → IsKeptBy plan k
   pub pipes : ArePipes plan.channels (length circuit.signals) (newest_tokens net.queues (length plan.channels)) (drop (length circuit.registers) whole.registers)
 
--- A state has what the first machines of the plan have of another.
+-- A state has the parts of another that the first machines of the plan have.
 pub record AreDone (plan : Plan) (whole : State) (count : ℕ) (state : State) : Type 0 where
   pub registers : (k r : ℕ) → k < count → Contains (held_by (machine_in plan k).body) r → value_at state.registers r ≡ value_at whole.registers r
   pub memories : (k m : ℕ) → k < count → Contains (kept_by (machine_in plan k).body) m → bank_at state.banks m ≡ bank_at whole.banks m
 
--- a state is as large as the circuit's own part of it
+-- a state has exactly the circuit's own registers, and its memories with their sizes
 pub record IsSized (circuit : FlatCircuit) (state : State) : Type 0 where
   pub registers : length state.registers ≡ length circuit.registers
   pub banks : length state.banks ≡ length circuit.memories

@@ -1,4 +1,4 @@
--- What can be wrong with the first two lines of a snapshot.
+-- Faults of the first two lines of a snapshot.
 -- Source: this program's own.
 use Rattle.std.specs.Prelude.{◌≡◌, ◌≢◌, ℕ, ◌≤◌, List, [], ◌∷◌, length}
 use Rattle.gg_bits.specs.Limits.{cycle_limit}

@@ -1,5 +1,5 @@
 -- A state that is put together from the states of parts.
--- Source: MEMOCODE 2009 (the values of a part are those of the same registers and memories in the whole).
+-- Source: MEMOCODE 2009 (the registers and memories of a part have their values in the whole).
 use Rattle.std.specs.Prelude.{◌≡◌, ℕ, List, [], ◌∷◌, Contains, length, map, slice_set}
 use Rattle.gg_flat.specs.Line.{value_at}
 use Rattle.gg_flat.specs.Memory.{Bank, bank_at}
@@ -16,7 +16,7 @@ pub record HasSizeOf (bank other : Bank) : Type 0 where
   pub words : length bank.words ≡ length other.words
   pub reads : length bank.reads ≡ length other.reads
 
--- A state is that of a part, which has these registers and memories of the whole.
+-- The state of a part with these registers and memories of the whole.
 pub record IsPartState (whole : State) (held memories : List ℕ) (state : State) : Type 0 where
   pub registers : state.registers ≡ map (value_at whole.registers) held
   pub banks : state.banks ≡ map (bank_at whole.banks) memories

@@ -1,4 +1,4 @@
--- What a contract sees of a snapshot.
+-- A snapshot, as contracts see it.
 -- Source: this program's own.
 use Rattle.std.specs.Prelude.{ℕ}
 use Rattle.gg_flat.specs.State.{State}

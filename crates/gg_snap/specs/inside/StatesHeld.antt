@@ -1,4 +1,4 @@
--- Where the state of a plan's circuit stands: in the machines of the plan, and in a network at the end of a run. It can be saved.
+-- The places of the state of a plan's circuit: in the machines of the plan, and in a network at the end of a run. It can be saved.
 -- Source: MEMOCODE 2009 (a network of machines has the state of the synchronous circuit that it was cut from, each machine its part, and a
 -- pipe's register is the token in its channel).
 use Rattle.std.specs.Prelude.{◌≡◌, ◌<◌, ℕ, List, [], None, length}
@@ -31,7 +31,7 @@ use Rattle.gg_snap.specs.Whole.{last_state}
 abbrev pub PlansCanSave : Type 0
 PlansCanSave =
     (design : Ordered) (request : Request)
-    -- The design is one that keeps to its tree, whose signals have paths, and no two signals hold one register.
+    -- The design keeps to its tree, its signals have paths, and no two of them hold one register.
     → IsDesign design → KeepsToTree design.circuit design.tree → AreHeldOnce design.circuit → HavePaths design.circuit design.tree
     -- The request has no fault for it.
     → first_fault design request ≡ None
@@ -42,7 +42,7 @@ PlansCanSave =
 abbrev pub PlansAreWhole : Type 0
 PlansAreWhole =
     (design : Ordered) (request : Request)
-    -- The design is one that keeps to its tree, and some signal holds each register.
+    -- The design keeps to its tree, and some signal holds each register.
     → IsDesign design → KeepsToTree design.circuit design.tree → AllHeld design.circuit
     -- The request has no fault for it.
     → first_fault design request ≡ None
@@ -57,7 +57,7 @@ RegistersAreHeld =
     (design : Ordered) (request : Request) (models : Models) (default : ℕ) (plan : Plan)
     -- This is a plan of the design and the request.
     → IsPlan design request models default plan
-    -- The design is one that keeps to its tree, and some signal holds each register. The request has no fault for it.
+    -- The design keeps to its tree, and some signal holds each register. The request has no fault for it.
     → IsDesign design → KeepsToTree design.circuit design.tree → AllHeld design.circuit → first_fault design request ≡ None
     -- A machine holds register r.
     → (r : ℕ) → r < length design.circuit.registers → IsHeldBy plan r
@@ -68,7 +68,7 @@ MemoriesAreKept =
     (design : Ordered) (request : Request) (models : Models) (default : ℕ) (plan : Plan)
     -- This is a plan of the design and the request.
     → IsPlan design request models default plan
-    -- The design is one that keeps to its tree, and some signal holds each register. The request has no fault for it.
+    -- The design keeps to its tree, and some signal holds each register. The request has no fault for it.
     → IsDesign design → KeepsToTree design.circuit design.tree → AllHeld design.circuit → first_fault design request ≡ None
     -- A machine has memory k.
     → (k : ℕ) → k < length design.circuit.memories → IsKeptBy plan k
@@ -79,20 +79,20 @@ MemoriesAreKept =
 abbrev pub MachinesAreInTheState : Type 0
 MachinesAreInTheState =
     (plan : Plan) (start : Start) (columns : List (List ℕ)) (n : ℕ) (flow : Flow) (run : IsToRunFrom plan start columns n flow) (net : Network)
-    -- The request asks for no bridge, and no path of the circuit begins as those of pipes do.
+    -- The request has no bridge, and no path of the circuit begins like the path of a pipe.
     → run.request.bridges ≡ [] → IsFresh run.design.circuit
-    -- The network is one of the plan, and all of its machines stand at the end of the run.
+    -- The network is the plan's, and all its machines are at the end of the run.
     → Kept flow net → StandsAt plan start (run_token run) columns n n net
     -- They are in the state after the last cycle.
     → AreIn run.design.circuit plan net (last_state run)
 
--- And the channel of each pipe has one token, what the pipe's register holds. So the network has all of the state.
+-- The channel of each pipe has one token, the value of the pipe's register, and so the network has all of the state.
 abbrev pub TheWholeStateIsThere : Type 0
 TheWholeStateIsThere =
     (plan : Plan) (start : Start) (columns : List (List ℕ)) (n : ℕ) (flow : Flow) (run : IsToRunFrom plan start columns n flow) (net : Network)
-    -- The request asks for no bridge, no path of the circuit begins as those of pipes do, and some signal holds each register.
+    -- The request has no bridge, no path of the circuit begins like the path of a pipe, and some signal holds each register.
     → run.request.bridges ≡ [] → IsFresh run.design.circuit → AllHeld run.design.circuit
-    -- The network is one of the plan, and all of its machines stand at the end of the run.
+    -- The network is the plan's, and all its machines are at the end of the run.
     → Kept flow net → StandsAt plan start (run_token run) columns n n net
     -- It has all of the state after the last cycle.
     → IsAll run.design.circuit plan net (last_state run)

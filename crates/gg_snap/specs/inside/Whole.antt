@@ -1,4 +1,4 @@
--- More on Whole: what no promise of the program's speaks of.
+-- More on Whole: definitions that no promise of the program reaches.
 -- Source: MEMOCODE 2009 (a network of machines has the state of the synchronous circuit that it was cut from, each machine its part, and a
 -- pipe's register is the token in its channel).
 use Rattle.std.specs.Prelude.{◌≡◌, ℕ, List, []}

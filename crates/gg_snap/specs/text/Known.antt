@@ -1,4 +1,4 @@
--- What a table needs so that its lines can be read again.
+-- Tables with lines that can be read again.
 -- Source: this program's own.
 use Rattle.std.specs.Prelude.{◌≡◌, ◌≢◌, ◌⊎◌, ℕ, ◌<◌, ◌≤◌, ◌^◌, List, [], ◌∷◌, length, map, All, AllPairs, Contains, ⊤}
 use Rattle.gg_bits.specs.Shape.{shape}
@@ -29,14 +29,14 @@ pub record CanSave (circuit : FlatCircuit) (tree : InstanceTree) : Type 0 where
 
 -- ---- rows
 
--- the values of a row are there, as many as it says, each of its width
+-- the values of a row are there: `count` of them, each of `width` bits
 abbrev pub IsAt : FlatCircuit → (width count : ℕ) → At → Type 0
 IsAt circuit width count (Register r) = (r < length circuit.registers) × (count ≡ 1) × (width ≡ (shape_at (register_shapes circuit) r).width)
 IsAt circuit width count (Read m r) = (m < length circuit.memories) × (r < read_count (latency_at circuit m) (readers_at circuit m)) × (count ≡ 1) × (width ≡ (shape_at (map (λ memory. shape memory.word) circuit.memories) m).width)
 IsAt circuit width count (Words m) = (m < length circuit.memories) × (count ≡ value_at (map (λ memory. memory.depth) circuit.memories) m) × (width ≡ (shape_at (map (λ memory. shape memory.word) circuit.memories) m).width)
 
--- A row of which each value can be written on a line and read again: its width is 1 to 128 bits, it has fewer than 2^32 values, its path
--- has no blank and no line feed, and its values are those of the circuit.
+-- A row that can be written on lines and read again, value by value: its width is 1 to 128 bits, it has fewer than 2^32 values, its path has no blank
+-- and no line feed, and its values are the circuit's.
 pub record IsKnown (circuit : FlatCircuit) (row : Row) : Type 0 where
   pub some : 0 < row.width
   pub narrow : row.width ≤ 128
@@ -56,7 +56,7 @@ IsElsewhere (Words m) (Register q) = ⊤
 IsElsewhere (Words m) (Read n q) = ⊤
 IsElsewhere (Words m) (Words n) = m ≢ n
 
--- Two rows differ: in kind or in path, and in what they have.
+-- Two rows differ: in kind or in path, and in their values' places.
 pub record Differ (one other : Row) : Type 0 where
   pub named : (one.kind ≢ other.kind) ⊎ (one.path ≢ other.path)
   pub apart : IsElsewhere one.at other.at

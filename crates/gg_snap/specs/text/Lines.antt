@@ -12,7 +12,7 @@ use Rattle.gg_snap.specs.declared.text.row.Kind.{Kind}
 use Rattle.gg_snap.specs.declared.text.row.Kind.TheVariants as kind
 use Rattle.gg_snap.specs.declared.text.row.Row.{Row}
 
--- the word of a kind, with a blank behind it
+-- the word of a kind, with a blank after it
 abbrev pub kind_word : Kind → List ℕ
 kind_word kind.Register = codes "reg "
 kind_word kind.Read = codes "read "
@@ -25,13 +25,13 @@ value_of state (Register r) address = value_at state.registers r
 value_of state (Read m r) address = value_at (bank_at state.banks m).reads r
 value_of state (Words m) address = value_at (bank_at state.banks m).words address
 
--- the address as it stands in a line, with a blank behind it; of a memory alone
+-- the address as it is written in a line, with a blank after it; only for a memory
 abbrev pub address_text : At → ℕ → List ℕ
 address_text (Register r) address = []
 address_text (Read m r) address = []
 address_text (Words m) address = decimal address ++ 32 ∷ []
 
--- the first part of a row's lines: the word of its kind and its path, each with a blank behind it
+-- the first part of a row's lines: the word of its kind and its path, each with a blank after it
 abbrev pub head_of : Row → List ℕ
 head_of row = kind_word row.kind ++ (row.path ++ 32 ∷ [])
 
@@ -39,7 +39,7 @@ head_of row = kind_word row.kind ++ (row.path ++ 32 ∷ [])
 abbrev pub tail_of : Row → (address value : ℕ) → List ℕ
 tail_of row address value = address_text row.at address ++ (hex_digits (digit_count row.width) value ++ 10 ∷ [])
 
--- the line of a value: what tells its row, then what tells its address and the value
+-- the line of a value: the head of its row, and then the address and the value
 abbrev pub line_of : Row → (address value : ℕ) → List ℕ
 line_of row address value = head_of row ++ tail_of row address value
 

@@ -1,4 +1,4 @@
--- Which lines can stand in a snapshot of a circuit.
+-- Lines that can be in a snapshot of a circuit.
 -- Source: this program's own.
 use Rattle.std.specs.Prelude.{◌≡◌, ℕ, suc, ◌<◌, ◌≤◌, List, [], ◌∷◌, ◌==◌, if◌then◌else◌, length, take, ⊤}
 use Rattle.gg_bits.specs.Limits.{cycle_limit}
@@ -30,7 +30,7 @@ pub record CanStand (circuit : FlatCircuit) (tree : InstanceTree) (bytes : List 
   pub enough : k ≤ length (snap_lines (rows_of circuit tree) cycle state)
   pub same : take k (pieces bytes) ≡ take k (snap_lines (rows_of circuit tree) cycle state)
 
--- Line `line` is the first that can't stand, or there are fewer than two lines, which all stand, and it is the one behind them.
+-- Line `line` is the first that can't be in a snapshot. Or there are fewer than two lines, all of them can be there, and `line` is the next.
 pub data IsFirstFault (circuit : FlatCircuit) (tree : InstanceTree) (bytes : List ℕ) (line : ℕ) : Type 0 where
   Stops : (k : ℕ) (is : line ≡ suc k) (there : k < length (pieces bytes)) (before : CanStand circuit tree bytes k) (stops : ¬ CanStand circuit tree bytes (suc k)) → IsFirstFault circuit tree bytes line
   Lacks : (is : line ≡ suc (length (pieces bytes))) (few : length (pieces bytes) < 2) (before : CanStand circuit tree bytes (length (pieces bytes))) → IsFirstFault circuit tree bytes line
@@ -41,7 +41,7 @@ pub record IsSnap (circuit : FlatCircuit) (tree : InstanceTree) (bytes : List �
   pub typed : IsState circuit state
   pub is : bytes ≡ snap_text (rows_of circuit tree) cycle state
 
--- a fact of the line, where the fault is one of a line
+-- a fact about the line of the fault, if it has one
 abbrev pub IfFault : (ℕ → Type 0) → SnapFault → Type 0
 IfFault P (S1 line) = P line
 IfFault P NoMemory = ⊤

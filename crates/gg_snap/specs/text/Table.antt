@@ -1,4 +1,4 @@
--- The table of a circuit: what a snapshot of it can have values of, in the order of the lines.
+-- The table of a circuit: the values of a snapshot of it, in the order of the lines.
 -- Source: FIRRTL Specification, "Registers", "Memories"; the order and the paths are this program's own.
 use Rattle.std.specs.Prelude.{ℕ, ◌++◌, List, [], ◌∷◌, Option, Some, None, ◌==◌, if◌then◌else◌, codes, length, map}
 use Rattle.std.specs.List.{flat_map, range_with_len}
@@ -17,13 +17,13 @@ use Rattle.gg_snap.specs.declared.text.row.Row.{Row}
 
 -- ---- registers, pipes and read registers
 
--- what follows these bytes in a text, if it begins with them
+-- the rest of a text after these bytes, if it begins with them
 abbrev pub after : List ℕ → List ℕ → Option (List ℕ)
 after [] text = Some text
 after (b ∷ front) [] = None
 after (b ∷ front) (c ∷ text) = if b == c then after front text else None
 
--- the name of a pipe's channel, if the path is that of a pipe
+-- the name of a pipe's channel, if this is the path of a pipe
 abbrev pub channel_of : List ℕ → Option (List ℕ)
 channel_of path = after (codes "pipe:") path
 

@@ -2,7 +2,7 @@
 ghost use Rattle.std.specs.Prelude.{◌≡◌, ◌≢◌, ℕ, ◌<◌, ◌≤◌, ◌++◌, ◌∷◌, [], List, MatchOption, length, slice_index};
 ghost use Rattle.gg_snap.specs.text.Standing.{pieces};
 
-// What follows these bytes in a text that begins with them.
+// The rest of a text after these bytes, if it begins with them.
 pub(crate) fn strip<'a>(text: &'a [u8], front: &[u8]) -> Option<&'a [u8]>
     ensures { MatchOption result ((rest : List ℕ) → text.now ≢ front.now ++ rest) (λ rest. text.now ≡ front.now ++ rest.now) }
 {
@@ -23,7 +23,7 @@ pub(crate) fn without_last(text: &[u8]) -> Option<&[u8]>
     }
 }
 
-// The number of bytes before the first one that is `byte`. All, if none is.
+// The number of bytes before the first one that is `byte`; all, if none is.
 pub(crate) fn len_before(text: &[u8], byte: u8) -> usize
     ensures within { result ≤ length text.now }
     ensures before { (k : ℕ) → k < result → slice_index text.now k ≢ byte }
@@ -37,7 +37,7 @@ pub(crate) fn len_before(text: &[u8], byte: u8) -> usize
     text.len()
 }
 
-// The first line of a text, with its line feed, and the text behind it.
+// The first line of a text, with its line feed, and the rest of the text.
 pub(crate) fn cut_piece(text: &[u8]) -> (&[u8], &[u8])
     requires { 0 < length text.now }
     ensures cut { pieces text.now ≡ result.0.now ∷ pieces result.1.now }

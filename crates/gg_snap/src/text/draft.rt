@@ -12,7 +12,7 @@ use gg_order::{Bank, State};
 use std::alloc::{AllocError, Global};
 use std::marker::Model;
 
-// What a memory holds: words and read registers that can be written.
+// The words and read registers of a memory, which can be written.
 struct Filled {
     words: Vec<u128>,
     reads: Vec<u128>,
@@ -57,7 +57,7 @@ impl Model for StateDraft {
 }
 
 impl Filled {
-    // The same as a bank. Does not allocate.
+    // The bank with these words and reads. Does not allocate.
     fn into_bank(self) -> Bank
         ensures { result ≡ self }
     {
@@ -66,7 +66,7 @@ impl Filled {
     }
 }
 
-// What a memory holds before the first cycle.
+// The values of a memory before the first cycle.
 fn empty(alloc: Global, memory: &Memory) -> Result<Filled, AllocError>
     ensures { IfOk result (λ bank. bank ≡ opening_bank memory.now) }
 {
@@ -75,7 +75,7 @@ fn empty(alloc: Global, memory: &Memory) -> Result<Filled, AllocError>
     Ok(Filled { words, reads })
 }
 
-// What memories hold before the first cycle.
+// The values of memories before the first cycle.
 fn empty_banks(alloc: Global, memories: &[Memory]) -> Result<Vec<Filled>, AllocError>
     ensures { IfOk result (λ banks. banks.items ≡ map (λ memory. opening_bank memory) memories.now) }
 {
@@ -86,7 +86,7 @@ fn empty_banks(alloc: Global, memories: &[Memory]) -> Result<Vec<Filled>, AllocE
     Ok(banks)
 }
 
-// What these memories hold.
+// The banks of these memories.
 fn banks_of(alloc: Global, filled: Vec<Filled>) -> Result<Vec<Bank>, AllocError>
     ensures { IfOk result (λ banks. banks.items ≡ filled.items) }
 {
@@ -108,7 +108,7 @@ fn put_values(old: &mut [u128], places: &[u32], values: &[u128])
     }
 }
 
-// Makes a memory hold what a bank has.
+// Copies the values of a bank into a memory.
 fn put_bank(old: &mut Filled, bank: &Bank)
     requires words { length bank.now.words ≡ length old.old.words }
     requires reads { length bank.now.reads ≡ length old.old.reads }
@@ -118,7 +118,7 @@ fn put_bank(old: &mut Filled, bank: &Bank)
     old.reads.copy_from_slice(bank.reads());
 }
 
-// Makes the memories at these places hold what banks have.
+// Copies the values of banks into the memories at these places.
 fn put_banks(old: &mut [Filled], places: &[u32], banks: &[Bank])
     requires count { length banks.now ≡ length places.now }
     requires known { All (λ place. place < length old.old) places.now }
@@ -186,7 +186,7 @@ impl StateDraft {
         Ok(State::of(registers, banks))
     }
 
-    /// The state, with the registers of pipes behind the others. They hold these tokens.
+    /// The state, with the registers of pipes after the others. They hold these tokens.
     ///
     /// # Errors
     ///

@@ -1,4 +1,4 @@
-//! What can be wrong with a text that is read as a snapshot.
+//! Faults of a text that is read as a snapshot.
 ghost use Rattle.std.specs.Prelude.{◌≡◌};
 ghost use Rattle.gg_snap.specs.declared.text.fault.SnapFault.TheVariants.{NoMemory};
 
@@ -9,7 +9,7 @@ use std::fmt;
 /// Why bytes are no snapshot of a circuit. The text of `S1` begins with this code. `NoMemory` has no code.
 #[derive(Clone, Copy, Debug, Drop, PartialEq, Eq)]
 pub enum SnapFault {
-    /// S1: a line can't stand in a snapshot together with those before it, or lines are missing.
+    /// S1: a line can't be in a snapshot together with the lines before it, or lines are missing.
     S1 {
         /// The first such line, counted from 1; or the number of lines and one more, if lines are missing.
         line: u64,

@@ -28,7 +28,7 @@ fn spelt_cycle(line: &[u8]) -> Option<u64>
     }
 }
 
-// The cycle whose line this is, if it is that of a cycle.
+// The cycle of a line, if it is the line of a cycle.
 fn cycle_of(alloc: Global, line: &[u8]) -> Result<Option<u64>, AllocError>
     ensures { IfOk result (λ cycle. MatchOption cycle ((n : ℕ) → n ≤ cycle_limit → line.now ≢ cycle_line n) (λ n. (n ≤ cycle_limit) × (line.now ≡ cycle_line n))) }
 {
@@ -44,7 +44,7 @@ fn cycle_of(alloc: Global, line: &[u8]) -> Result<Option<u64>, AllocError>
     }
 }
 
-// The cycle of a snapshot, and the text behind its first two lines.
+// The cycle of a snapshot, and the text after its first two lines.
 //
 // # Errors
 //

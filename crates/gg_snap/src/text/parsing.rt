@@ -8,7 +8,7 @@ ghost use Rattle.gg_snap.specs.text.Known.{IsKnown};
 use crate::text::cutting::{len_before, strip, without_last};
 use crate::text::row::{At, Row, word_of};
 
-// What follows the head of a row in a line that begins with it.
+// The rest of a line after the head of a row, if it begins with it.
 pub(crate) fn after_head<'a>(line: &'a [u8], row: &Row) -> Option<&'a [u8]>
     ensures { MatchOption result ((rest : List ℕ) → line.now ≢ head_of row.now ++ rest) (λ rest. line.now ≡ head_of row.now ++ rest.now) }
 {
@@ -37,7 +37,7 @@ pub(crate) fn value_of(text: &[u8]) -> Option<u128>
     u128::from_str_radix(text, 16).ok()
 }
 
-// An address and a value behind it.
+// An address and the value after it.
 fn addressed(text: &[u8]) -> Option<(u32, u128)>
     ensures { (address width value : ℕ) → address < 2 ^ 32 → 0 < width → width ≤ 128 → value < 2 ^ width
         → text.now ≡ decimal address ++ 32 ∷ hex_digits (digit_count width) value

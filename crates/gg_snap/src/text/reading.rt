@@ -21,7 +21,6 @@ use std::alloc::{AllocError, Global};
 pub(crate) struct Cursor {
     // The row, by its place.
     pub(crate) row: usize,
-    // The address.
     pub(crate) address: u32,
 }
 
@@ -33,7 +32,7 @@ fn fits(value: u128, width: u32) -> bool
     width == 128 || value < 1 << width
 }
 
-// Whether a line is that of a value of a row.
+// Whether a line is the line of this value of a row.
 fn is_line(
     text: &mut String,
     row: &Row,
@@ -57,7 +56,7 @@ fn is_cell(row: &Row, from: u32, address: u32, value: u128) -> bool
     from <= address && address < row.count && value > 0 && fits(value, row.width)
 }
 
-// The address, from an address on, and the value of which a line is that of a row. `rest` is what follows the row's head in it.
+// The address, not below `from`, and the value of a row that a line spells. `rest` is the line without the row's head.
 fn cell_at(
     text: &mut String,
     row: &Row,
@@ -83,7 +82,7 @@ fn cell_at(
     Ok(Some((address, value)))
 }
 
-// Goes on to the first row, from the cursor on, with whose head a line begins, and returns what follows the head.
+// Moves the cursor to the first row with a head that the line begins with, and returns the rest of the line.
 fn find<'a>(rows: &[Row], cursor: &mut Cursor, line: &'a [u8]) -> Option<&'a [u8]>
     requires known { (circuit : FlatCircuit) × AreKnown circuit rows.now }
     requires within { cursor.old.row ≤ length rows.now }
@@ -100,7 +99,7 @@ fn find<'a>(rows: &[Row], cursor: &mut Cursor, line: &'a [u8]) -> Option<&'a [u8
     None
 }
 
-// Takes a line, if it can stand behind those that were taken: its value goes into the draft.
+// Takes a line, if it can come after the lines that were taken: its value goes into the draft.
 fn take_line(
     rows: &[Row],
     cursor: &mut Cursor,
@@ -127,8 +126,7 @@ fn take_line(
     Ok(true)
 }
 
-// Takes the lines of a text, one after another. Returns how many were taken before one that can't stand behind them, or none if all
-// were taken.
+// Takes the lines of a text, one after another. Returns how many were taken before one that can't come after them, or none if all were taken.
 pub(crate) fn take_lines(
     alloc: Global,
     rows: &[Row],

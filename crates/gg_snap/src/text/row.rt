@@ -1,4 +1,4 @@
-//! The rows of a table: what a snapshot can have values of.
+//! The rows of a table: the values that a snapshot can have.
 ghost use Rattle.std.specs.Prelude.{◌≡◌};
 ghost use Rattle.gg_snap.specs.text.Lines.{kind_word};
 
@@ -7,7 +7,6 @@ use gg_bits::Name;
 // A kind of row.
 #[derive(Clone, Copy)]
 pub enum Kind {
-    // A register.
     Register,
     // A read register of a memory.
     Read,
@@ -30,9 +29,8 @@ pub enum At {
 
 // A row of a table: a register, a read register, a pipe or a memory, and where its values are.
 pub struct Row {
-    // What it is.
     pub kind: Kind,
-    // Its path: that of the signal that holds the register, of the reader's data, of the pipe's channel, or of the memory.
+    // Its path: the path of the signal that holds the register, of the reader's data, of the pipe's channel, or of the memory.
     pub path: Name,
     // The width of its values.
     pub width: u32,
@@ -55,7 +53,7 @@ impl Drop for Row {
     }
 }
 
-// The word of a kind, with a blank behind it.
+// The word of a kind, with a blank after it.
 pub(crate) fn word_of(kind: Kind) -> &'static str
     ensures { result.now ≡ kind_word kind }
 {

@@ -95,13 +95,25 @@ impl<'a> Snap<'a> {
     }
 }
 
-/// The snapshot of a design's circuit whose text these bytes are.
+/// The snapshot of a design's circuit from its text.
 ///
 /// # Errors
 ///
-/// Returns `SnapFault::S1` with the number of the first line that can't stand in the text of any snapshot of the circuit, together with
-/// the lines before it. If all lines can stand, and there are fewer than two, it is the number of lines and one more. Returns
-/// `SnapFault::NoMemory` if an allocation fails.
+/// Returns `SnapFault::S1` with the number of the first line that can't be in the text of any snapshot of the circuit, together with the lines before
+/// it. If all lines can be there, and there are fewer than two, it is the number of lines and one more. Returns `SnapFault::NoMemory` if an
+/// allocation fails.
+///
+/// # Examples
+///
+/// The circuit has one register `count` of 4 bits.
+///
+/// ```text
+/// let snap = read_snap(alloc, &design, b"golden snapshot 1\ncycle 3\nreg count 8\n")?;
+/// snap.cycle()              // 3
+/// snap.state().registers()  // [8]
+/// read_snap(alloc, &design, b"golden snapshot 1\ncycle 3\nreg count 0\n")  // Err(S1 { line: 3 }): a value 0 has no line
+/// read_snap(alloc, &design, b"golden snapshot 1\n")                        // Err(S1 { line: 2 }): the second line is missing
+/// ```
 pub fn read_snap<'a>(alloc: Global, design: &'a Design, bytes: &[u8]) -> Result<Snap<'a>, SnapFault>
     requires { CanSave design.now.circuit design.now.tree }
     ensures design { IfOk result (λ snap. snap.design ≡ design.now) }
@@ -123,11 +135,20 @@ pub fn read_snap<'a>(alloc: Global, design: &'a Design, bytes: &[u8]) -> Result<
     })
 }
 
-/// The text of a snapshot.
+/// The text of a snapshot. It has a line for each value that isn't 0.
 ///
 /// # Errors
 ///
 /// Returns `AllocError` if an allocation fails.
+///
+/// # Examples
+///
+/// The circuit has one register `count` of 4 bits, with the value 8 before cycle 3.
+///
+/// ```text
+/// snap_text(alloc, &snap)?  // "golden snapshot 1\ncycle 3\nreg count 8\n"
+/// ```
+/// With the value 0 only the first two lines are left.
 pub fn snap_text(alloc: Global, snap: &Snap<'_>) -> Result<Name, AllocError>
     requires { CanSave snap.now.design.circuit snap.now.design.tree }
     ensures known { IfOk result (λ _. AreKnown snap.now.design.circuit (rows_of snap.now.design.circuit snap.now.design.tree)) }

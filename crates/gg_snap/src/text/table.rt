@@ -1,4 +1,4 @@
-//! The table of a design: what a snapshot of it can have values of, in the order of the lines.
+//! The table of a design: the values of a snapshot of it, in the order of the lines.
 ghost use Rattle.std.specs.Prelude.{◌≡◌, ◌≢◌, ◌<◌, ◌++◌, ◌+◌, ◌^◌, ℕ, Some, None, IfOk, OnOk, MatchOption, All, AllPairs, length};
 ghost use Rattle.gg_flat_tree.specs.Tree.{path_at, memory_at};
 ghost use Rattle.gg_flat.specs.WellFormed.{IsWellFormed};
@@ -14,7 +14,7 @@ use gg_flat_tree::Tree;
 use gg_order::Design;
 use std::alloc::{AllocError, Global};
 
-// The name of a pipe's channel, if the path is that of a pipe.
+// The name of a pipe's channel, if this is the path of a pipe.
 fn channel_of(path: &Name) -> Option<&str>
     ensures { MatchOption result (channel_of path.now ≡ None) (λ channel. channel_of path.now ≡ Some channel.now) }
 {
@@ -154,7 +154,7 @@ fn memory_path(tree: &Tree, place: u32) -> &Name
     requires { place < length tree.now.memories }
     ensures { result.now ≡ path_at tree.now.memory_paths place }
 {
-    // for the invariant alone
+    // for the invariant only
     let _ = tree.memory_count();
     match tree.memory_path(place) {
         Some(path) => path,
@@ -223,7 +223,7 @@ pub(crate) fn rows_of(alloc: Global, design: &Design) -> Result<Vec<Row>, AllocE
 {
     let piece = design.piece();
     let tree = design.tree();
-    // for the invariant alone
+    // for the invariant only
     let _ = tree.memory_count();
     let registers = signal_rows(alloc, piece, Kind::Register)?;
     let reads = signal_rows(alloc, piece, Kind::Read)?;

@@ -1,7 +1,7 @@
 -- What a contract sees of cells.
 use Rattle.std.specs.Prelude.{ℕ, List}
 
--- The values of signals, and how many places there are behind them.
+-- The values of signals, and how many places of scratch space there are.
 pub record Celled : Type 0 where
   pub values : List ℕ
   pub room : ℕ

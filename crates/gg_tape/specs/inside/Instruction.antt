@@ -1,4 +1,4 @@
--- What an instruction gives, and what it asks of the cells that it names.
+-- The value of an instruction, and what it requires of the cells that it names.
 use Rattle.std.specs.Prelude.{◌≡◌, ℕ, ◌<◌, List, Ok, length}
 use Rattle.gg_bits.specs.Shape.{Shape, of_kind, Fits}
 use Rattle.gg_bits.specs.ResultType.{type1, type2, type_const, shape_mux}
@@ -17,7 +17,7 @@ small ty = of_kind ty.kind ty.width
 abbrev pub IsOperand : List ℕ → Small → ℕ → Type 0
 IsOperand cells ty number = (number < length cells) × Fits (small ty) (value_at cells number)
 
--- What an operation of an instruction gives, if the literals and the cells have these values.
+-- The value of an operation of an instruction, if the literals and the cells have these values.
 abbrev pub given : List ℕ → List ℕ → Instruction → Operation → ℕ
 given literals cells i Take = value_at cells i.first
 given literals cells i Constant = value_at literals i.first
@@ -26,7 +26,7 @@ given literals cells i (Apply2 op) = value2 op (small i.first_ty) (value_at cell
 given literals cells i (ApplyConst op) = value_const op (small i.first_ty) (value_at cells i.first) i.second i.third
 given literals cells i Choose = value_mux (value_at cells i.third) (small i.first_ty) (value_at cells i.first) (small i.second_ty) (value_at cells i.second)
 
--- An operation of an instruction can be done: what it names is there and of its type, and the result is of the instruction's type.
+-- An operation of an instruction can be done: what it names exists and is of its type, and the result is of the instruction's type.
 abbrev pub CanDo : List ℕ → List ℕ → Instruction → Operation → Type 0
 CanDo literals cells i Take = IsOperand cells i.ty i.first
 CanDo literals cells i Constant = IsOperand literals i.ty i.first

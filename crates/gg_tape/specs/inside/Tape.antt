@@ -1,4 +1,4 @@
--- What a tape is.
+-- Tapes: which instructions compute which drivers.
 use Rattle.std.specs.Prelude.{◌≡◌, ℕ, ◌+◌, ◌-◌, ◌<◌, ◌≤◌, List, length, map, take, drop, All}
 use Rattle.gg_bits.specs.Shape.{shape}
 use Rattle.gg_flat.specs.declared.line.Node.{Node}
@@ -19,14 +19,14 @@ use Rattle.gg_tape.specs.declared.small.Small.{Small}
 abbrev pub stretch_of : List Instruction → Stretch → List Instruction
 stretch_of instructions stretch = take (stretch.to - stretch.from) (drop stretch.from instructions)
 
--- The instructions of a stretch tell a line, where there are n signals.
+-- The instructions of a stretch compute a line, where there are n signals.
 pub record TellsLine (n : ℕ) (instructions : List Instruction) (literals : List ℕ) (stretch : Stretch) (line : List Node) : Type 0 where
   pub some : stretch.from < stretch.to
   pub within : stretch.to ≤ length instructions
   pub own : small stretch.own ≡ line_shape line
   pub told : Told line n literals 0 (stretch_of instructions stretch)
 
--- A stretch tells a driver: its instructions the line, if it is one. Else there are none.
+-- The instructions of a stretch compute the driver if it is a line. Otherwise there are none.
 abbrev pub TellsDriver : ℕ → List Instruction → List ℕ → Stretch → Driver → Type 0
 TellsDriver n instructions literals stretch (Input place) = stretch.from ≡ stretch.to
 TellsDriver n instructions literals stretch (Held register) = stretch.from ≡ stretch.to
@@ -34,17 +34,17 @@ TellsDriver n instructions literals stretch (MemoryWord memory reader addr en) =
 TellsDriver n instructions literals stretch (ReadRegister memory reader) = stretch.from ≡ stretch.to
 TellsDriver n instructions literals stretch (Computed line) = TellsLine n instructions literals stretch line
 
--- A stretch tells the driver of its signal.
+-- A stretch computes the driver of its signal.
 pub record IsStretch (circuit : FlatCircuit) (instructions : List Instruction) (literals : List ℕ) (stretch : Stretch) : Type 0 where
   pub known : stretch.signal < length circuit.signals
   pub sink : small stretch.sink ≡ shape_at (signal_shapes circuit) stretch.signal
   pub tells : TellsDriver (length circuit.signals) instructions literals stretch (driver_at circuit stretch.signal)
 
--- The signals that a tape tells, in its order.
+-- The signals of a tape, in its order.
 abbrev pub signals_of : Tape → List ℕ
 signals_of tape = map (λ stretch. stretch.signal) tape.stretches.items
 
--- A tape tells signals of this circuit.
+-- Each stretch of a tape computes the driver of a signal of this circuit.
 abbrev pub IsTape : FlatCircuit → Tape → Type 0
 IsTape circuit tape = All (IsStretch circuit tape.instructions.items tape.literals.items) tape.stretches.items
 
@@ -53,7 +53,7 @@ pub record AreNumbers (n : ℕ) (numbers : List ℕ) : Type 0 where
   pub count : length numbers ≡ n
   pub each : (k : ℕ) → k < n → value_at numbers k ≡ k
 
--- a tape tells all signals of this circuit, by their numbers
+-- a tape has all signals of this circuit, by their numbers
 pub record IsWhole (circuit : FlatCircuit) (tape : Tape) : Type 0 where
   pub tape_is : IsTape circuit tape
   pub numbers : AreNumbers (length circuit.signals) (signals_of tape)
@@ -80,7 +80,7 @@ TellsMore n old new own (Computed line) =
 
 -- ---- running it
 
--- The instructions of a stretch tell this line, which can be evaluated for its signal.
+-- The instructions of a stretch compute this line, which can be evaluated for its signal.
 pub record CanTell (tape : Tape) (stretch : Stretch) (cells : Celled) (line : List Node) : Type 0 where
   pub tells : TellsLine (length cells.values) tape.instructions.items tape.literals.items stretch line
   pub source : IsSource (HasValue cells.values) (small stretch.sink) line

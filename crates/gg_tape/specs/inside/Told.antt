@@ -1,4 +1,4 @@
--- Instructions that tell the nodes of a line.
+-- Instructions that compute the nodes of a line.
 use Rattle.std.specs.Prelude.{◌≡◌, ℕ, ◌+◌, ◌<◌, ◌≤◌, List, [], ◌∷◌, ◌++◌, length, take}
 use Rattle.gg_bits.specs.Shape.{shape}
 use Rattle.gg_flat.specs.declared.line.Node.{Node}
@@ -15,7 +15,8 @@ use Rattle.gg_tape.specs.inside.Instruction.{small}
 abbrev pub IsRef : Op → Type 0
 IsRef op = (s : ℕ) × (op ≡ Ref s)
 
--- The cell of the node at place i, if there are n signals: that of the signal, if it refers to one, else the i-th one behind the signals.
+-- The cell of the node at place i, if there are n signals: the cell of a signal if it refers to one, otherwise the cell at place i of the
+-- scratch space.
 abbrev pub cell_by : ℕ → ℕ → Op → ℕ
 cell_by n i (Ref s) = s
 cell_by n i (Literal value) = n + i
@@ -27,7 +28,7 @@ cell_by n i (Mux c j k) = n + i
 abbrev pub cell_of : List Node → ℕ → ℕ → ℕ
 cell_of nodes n i = cell_by n i (op_at nodes i)
 
--- the number and the type are those of the node at place j
+-- the number and the type are the cell and the type of the node at place j
 abbrev pub IsOf : List Node → ℕ → ℕ → ℕ → Small → Type 0
 IsOf nodes n j number ty = (number ≡ cell_of nodes n j) × (small ty ≡ shape_at (shapes_of nodes) j)
 
@@ -40,20 +41,21 @@ DoesOp nodes n literals i (Two op j k) = (i.operation ≡ Apply2 op) × IsOf nod
 DoesOp nodes n literals i (Fix op j p q) = (i.operation ≡ ApplyConst op) × IsOf nodes n j i.first i.first_ty × (i.second ≡ p) × (i.third ≡ q)
 DoesOp nodes n literals i (Mux c j k) = (i.operation ≡ Choose) × IsOf nodes n j i.first i.first_ty × IsOf nodes n k i.second i.second_ty × (i.third ≡ cell_of nodes n c)
 
--- An instruction does what the node at place k does, and writes that node's cell behind the signals.
+-- An instruction does what the node at place k does, and writes that node's cell in the scratch space.
 pub record Does (nodes : List Node) (n : ℕ) (literals : List ℕ) (k : ℕ) (i : Instruction) : Type 0 where
   pub cell : i.cell ≡ n + k
   pub ty : small i.ty ≡ shape_at (shapes_of nodes) k
   pub op : DoesOp nodes n literals i (op_at nodes k)
 
--- The next instruction for the nodes from place i on is for node k. Those between are references.
+-- The next instruction for the nodes starting at place i is for node k. The nodes between are references.
 pub record IsNext (nodes : List Node) (n : ℕ) (literals : List ℕ) (i k : ℕ) (instruction : Instruction) : Type 0 where
   pub from : i ≤ k
   pub within : k < length nodes
   pub between : (j : ℕ) → i ≤ j → j < k → IsRef (op_at nodes j)
   pub does : Does nodes n literals k instruction
 
--- The instructions tell the nodes from place i on, where there are n signals: one after another, but for references that aren't the last node.
+-- The instructions compute the nodes starting at place i, where there are n signals: one after another, except for references that aren't
+-- the last node.
 abbrev pub Told : List Node → ℕ → List ℕ → ℕ → List Instruction → Type 0
 Told nodes n literals i [] = i ≡ length nodes
 Told nodes n literals i (instruction ∷ rest) = (k : ℕ) × IsNext nodes n literals i k instruction × Told nodes n literals (k + 1) rest
@@ -67,7 +69,8 @@ NamesBefore k (Two op i j) = (i < k) × (j < k)
 NamesBefore k (Fix op i n m) = i < k
 NamesBefore k (Mux c i j) = (c < k) × (i < k) × (j < k)
 
--- Instructions that tell the nodes stand behind the old ones, and maybe more literals behind the old ones.
+-- The new instructions are the old ones, followed by instructions that compute the nodes. The new literals are the old ones, maybe followed
+-- by more.
 pub record IsAdded (nodes : List Node) (n : ℕ) (old : List Instruction) (old_literals : List ℕ) (new : List Instruction) (new_literals : List ℕ) : Type 0 where
   pub made : List Instruction
   pub more : List ℕ
@@ -75,7 +78,8 @@ pub record IsAdded (nodes : List Node) (n : ℕ) (old : List Instruction) (old_l
   pub literals_are : new_literals ≡ old_literals ++ more
   pub told : Told nodes n new_literals 0 made
 
--- The same for the nodes from place i up to k: whatever tells the rest, with them in front it tells all from i on.
+-- `IsAdded` for the nodes from place i up to k: followed by instructions that compute the rest, the added ones compute all nodes starting
+-- at i.
 pub record TellsTo (nodes : List Node) (n : ℕ) (i k : ℕ) (old : List Instruction) (old_literals : List ℕ) (new : List Instruction) (new_literals : List ℕ) : Type 0 where
   pub made : List Instruction
   pub more : List ℕ
@@ -83,13 +87,13 @@ pub record TellsTo (nodes : List Node) (n : ℕ) (i k : ℕ) (old : List Instruc
   pub literals_are : new_literals ≡ old_literals ++ more
   pub told : (further : List ℕ) (rest : List Instruction) → Told nodes n (new_literals ++ further) k rest → Told nodes n (new_literals ++ further) i (made ++ rest)
 
--- The instructions can be run for these nodes: the first n cells are the signals, and there is room behind them.
+-- The instructions can be run for these nodes: the first n cells are the signals, and there is room after them.
 pub record CanRun (nodes : List Node) (n : ℕ) (literals : List ℕ) (instructions : List Instruction) (cells : List ℕ) : Type 0 where
   pub told : Told nodes n literals 0 instructions
   pub line : IsLine (HasValue (take n cells)) nodes
   pub room : n + length nodes ≤ length cells
 
--- The instructions tell these nodes, where the signals have these values, and there is room for them.
+-- The instructions compute these nodes, where the signals have these values, and there is room for them.
 pub record IsTold (nodes : List Node) (literals : List ℕ) (instructions : List Instruction) (values : List ℕ) (room : ℕ) : Type 0 where
   pub told : Told nodes (length values) literals 0 instructions
   pub line : IsLine (HasValue values) nodes

@@ -1,4 +1,4 @@
--- More on Cells: what no promise of the program's speaks of.
+-- More on Cells: what no promise of the program reaches.
 -- Source: this program's own form; docs/FORMATS.md describes it.
 use Rattle.std.specs.Prelude.{◌≡◌, ℕ, ◌+◌, ◌*◌, ◌^◌, ◌<◌, ◌≤◌, List, Option, None, Some, SomeIff}
 use Rattle.gg_trace.specs.declared.cells.CellFault.{CellFault}

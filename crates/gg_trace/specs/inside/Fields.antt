@@ -1,4 +1,4 @@
--- More on Fields: what no promise of the program's speaks of.
+-- More on Fields: what no promise of the program reaches.
 -- Source: this program's own form; docs/FORMATS.md describes it.
 use Rattle.std.specs.Prelude.{ℕ, List, [], Option, None, Some}
 use Rattle.gg_trace.specs.Fields.{fields_of_text}

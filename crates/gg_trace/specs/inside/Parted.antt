@@ -7,7 +7,7 @@ use Rattle.gg_trace.specs.Fields.{is_blank}
 abbrev pub HasNoBlank : List ℕ → Type 0
 HasNoBlank text = (k : ℕ) → k < length text → is_blank (slice_index text k) ≡ false
 
--- one blank or more, and nothing else
+-- one or more blanks, and nothing more
 pub record IsGap (gap : List ℕ) : Type 0 where
   pub some : 0 < length gap
   pub blanks : (k : ℕ) → k < length gap → is_blank (slice_index gap k) ≡ true

@@ -44,7 +44,7 @@ abbrev pub TakesName : List Port → List ℕ → List Bool → List Bool → Op
 TakesName ports name old new None = (new ≡ old) × ((i : ℕ) → IsNamed ports name i → slice_index_or old i false ≡ true)
 TakesName ports name old new (Some i) = IsNamed ports name i × (slice_index_or old i false ≡ false) × (new ≡ slice_set old i true)
 
--- the places are those of ports, and no two are the same
+-- the places are places of ports, and no two are the same
 pub record ArePlaces (ports : List Port) (places : List ℕ) : Type 0 where
   pub within : (g : ℕ) → g < length places → slice_index places g < length ports
   pub distinct : (g h : ℕ) → g < h → h < length places → slice_index places g ≢ slice_index places h
@@ -65,7 +65,7 @@ pub record StopsAt (ports : List Port) (places : List ℕ) (cells : List (List �
   pub within : at < length places
   pub before : AreCells ports places cells at
 
--- the fault is that of the first cell of the row that isn't a value
+-- the fault is the fault of the first cell of the row that isn't a value
 abbrev pub HasValuesFault : List Port → List ℕ → List (List ℕ) → ℕ → TraceFault → Type 0
 HasValuesFault ports places cells row (Heading f) = ⊥
 HasValuesFault ports places cells row (RowNumber r) = ⊥

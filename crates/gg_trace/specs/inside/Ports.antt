@@ -1,4 +1,4 @@
--- More on Ports: what no promise of the program's speaks of.
+-- More on Ports: what no promise of the program reaches.
 use Rattle.std.specs.Prelude.{◌≢◌, ℕ, ◌<◌, List, length}
 use Rattle.gg_flat.specs.declared.ports.Port.{Port}
 use Rattle.gg_trace.specs.Ports.{name_at}

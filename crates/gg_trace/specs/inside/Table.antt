@@ -1,4 +1,4 @@
--- More on Table: what no promise of the program's speaks of.
+-- More on Table: what no promise of the program reaches.
 use Rattle.std.specs.Prelude.{ℕ, ◌+◌, ◌*◌, List, map, slice_index}
 use Rattle.std.specs.List.{range_with_len}
 
@@ -7,7 +7,7 @@ pub record Table : Type 0 where
   pub rows : ℕ
   pub columns : List (List ℕ)
 
--- the table whose rows, of this many values each, are in the list, one after another
+-- the table of the values in the list, row by row, this many values for each
 abbrev pub table_of : ℕ → ℕ → List ℕ → Table
 table_of rows width cells = record {
   rows = rows;

@@ -1,4 +1,4 @@
--- More on Memories: what no promise of the program's speaks of.
+-- More on Memories: what no promise of the program reaches.
 -- Source: FIRRTL Specification, "Memories" (data type, depth, latencies, ports, read-under-write). This program's
 -- profile: if a field occurs twice, the first counts; if read-under-write is missing, it is `undefined`.
 use Rattle.std.specs.Prelude.{map}

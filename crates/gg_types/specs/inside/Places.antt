@@ -31,7 +31,7 @@ pub record TellsNext (ways : List (List ℕ × Way)) (statements : List Stmt) (n
   pub places : ArePlaces (length ways) next
   pub told : (name : List ℕ) (place : ℕ) → place_in name ways ≡ Some place → slice_index next place ≡ next_place ways statements name place
 
--- the places after a statement drives the name d.0, whose place is given: that place now leads where d.1 leads, if the name's driver is
+-- the places after a statement drives the name d.0, which has this place: the place now leads where d.1 leads, if the name's driver is
 -- followed
 abbrev pub set_next : List (List ℕ × Way) → List ℕ → List ℕ × Option (List ℕ) → Option ℕ → List ℕ
 set_next ways next d None = next

@@ -23,7 +23,7 @@ pub record TypedTree : Type 0 where
   pub circuit : CircuitTree
   pub order : List ℕ
 
--- a type whose width is 1 to 128
+-- a type of a circuit without faults, as a written type
 abbrev pub sort : Typing → Sort
 sort (Ground ty) = bits (shape ty)
 sort Clock = sorts.Clock
@@ -33,7 +33,7 @@ pub record TellsOwn (modules : List ModuleTree) (m : ModuleTree) (own : List Own
   pub one_each : length own ≡ length (names_in m)
   pub told : owned (names_in m) own ≡ known_in modules m
 
--- the same, for each of the first n modules
+-- `TellsOwn` for each of the first n modules
 pub record TellModules (modules : List ModuleTree) (n : ℕ) (lists : List (List Own)) : Type 0 where
   pub count : length lists ≡ n
   pub each : (k : ℕ) → k < n → TellsOwn modules (module_at modules k) (slice_index_or lists k [])
@@ -42,7 +42,7 @@ pub record TellModules (modules : List ModuleTree) (n : ℕ) (lists : List (List
 abbrev pub TellsClocks : ModuleTree → List (Option ℕ) → Type 0
 TellsClocks m clocks = (name : List ℕ) → number_at clocks (place_of name (names_in m)) ≡ clock_named m.ports (root_of m name)
 
--- the same, for each of the first n modules
+-- `TellsClocks` for each of the first n modules
 pub record TellAllClocks (modules : List ModuleTree) (n : ℕ) (lists : List (List (Option ℕ))) : Type 0 where
   pub count : length lists ≡ n
   pub each : (k : ℕ) → k < n → TellsClocks (module_at modules k) (slice_index_or lists k [])

@@ -1,4 +1,4 @@
--- More on Types: what no promise of the program's speaks of.
+-- More on Types: what no promise of the program reaches.
 -- Sources: FIRRTL Specification, "Ground Types" (F10), "Primitive Operations" (F9 to F11), "Expressions" (F12), "Connects",
 -- "Registers", "Memories" (F9, F13), "Clock Type" (F14).
 use Rattle.std.specs.Prelude.{List, Option}

@@ -26,6 +26,6 @@ roles_seen k = scope_of k.names.now.modules (module_seen k)
 abbrev pub traced_seen : Known → List ℕ → Bool
 traced_seen k = flagged (names_seen k) k.traced.items
 
--- the type data of those that are declared so far
+-- the type data of the names that are declared so far
 abbrev pub owned_seen : Known → List (List ℕ × Option Own)
 owned_seen k = owned (names_seen k) k.own.items

@@ -1,4 +1,4 @@
--- More on Line: what no promise of the program's speaks of.
+-- More on Line: what no promise of the program reaches.
 -- Source: the definitions of `clap` (`with_rule`, `with_subcommand`), which say what `arg` and `subcommand` add to a command.
 use Rattle.std.specs.Prelude.{◌≡◌, true, false, List, [], ◌∷◌}
 use Rattle.std.specs.Borrow.{Bor}

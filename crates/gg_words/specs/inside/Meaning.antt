@@ -1,5 +1,5 @@
--- More on Meaning: what no promise of the program's speaks of.
--- Source: `clap`'s definitions for which words are taken (`fault_of`) and what is found in them (`subcommand_of`).
+-- More on Meaning: what no promise of the program reaches.
+-- Source: `clap`'s definitions of the words that it takes (`fault_of`) and of what it finds in them (`subcommand_of`).
 use Rattle.std.specs.Prelude.{◌≡◌, ◌⊎◌, true, List, [], ◌∷◌, Option, None, Some, is_some, Result, Ok, Err, MatchResult, codes, ⊤}
 use Rattle.clap.specs.Walk.{Row, Text, first_of}
 use Rattle.gg_words.specs.declared.command.WordFault.{WordFault}
@@ -21,7 +21,7 @@ abbrev pub HaveTexts : List Text → List Row → Type 0
 HaveTexts [] rows = ⊤
 HaveTexts (id ∷ ids) rows = (is_some (first_of id rows) ≡ true) × HaveTexts ids rows
 
--- the words that each command requires, by their places: its files, or a demo's numbers
+-- the files of `run`, by their places
 abbrev pub run_files : List Text
 run_files = codes "circuit" ∷ codes "partition" ∷ codes "trace" ∷ []
 

@@ -1,4 +1,4 @@
--- More on Range: what no promise of the program's speaks of.
+-- More on Range: what no promise of the program reaches.
 -- Source: this program's own command line: K is 1 to 4,096, W is 0 to 64, SEED is 0 to 4,294,967,295, SIZE is 1 to 64, AT is 0 to 1,000,000.
 use Rattle.gg_bits.specs.Limits.{cycle_limit}
 use Rattle.gg_words.specs.declared.command.Cmd.{Cmd}

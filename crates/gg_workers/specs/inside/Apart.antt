@@ -19,7 +19,7 @@ use Rattle.gg_workers.specs.declared.back.ReturnLists.{ReturnLists}
 use Rattle.gg_workers.specs.declared.worker.LinkedHost.{LinkedHost}
 use Rattle.gg_workers.specs.declared.host_seats.HostSeats.{HostSeats}
 
--- the machines at the ends of a channel
+-- the machine that takes the channel
 abbrev pub consumer_in : Network → ℕ → ℕ
 consumer_in net c = (wire_at net.wires c).consumer
 
@@ -27,14 +27,14 @@ consumer_in net c = (wire_at net.wires c).consumer
 abbrev pub producer_in : Network → ℕ → ℕ
 producer_in net c = (wire_at net.wires c).producer
 
--- The seats of a machine's channels are back, each with a property. `end_of` is the machine at one end of a channel. What was
--- back is still.
+-- The seats of a machine's channels are back, each with a property. `end_of` is the machine at one end of a channel. Seats that were back before
+-- still are.
 pub record MachineBack {A : Type 0} (end_of : ℕ → ℕ) (P : ℕ → A → Type 0) (count m : ℕ) (old new : List (Option A)) : Type 0 where
   pub long : length new ≡ length old
   pub keeps : (c : ℕ) → c < count → IsBack P c old → IsBack P c new
   pub back : (c : ℕ) → c < count → end_of c ≡ m → IsBack P c new
 
--- the same, of some machines
+-- `MachineBack` for the machines of one host.
 pub record HostBack {S T A : Type 0} (end_of : ℕ → ℕ) (P : ℕ → A → Type 0) (count : ℕ) (by_thread : List (MachineSeats S T)) (old new : List (Option A)) : Type 0 where
   pub long : length new ≡ length old
   pub keeps : (c : ℕ) → c < count → IsBack P c old → IsBack P c new
@@ -44,7 +44,7 @@ pub record HostBack {S T A : Type 0} (end_of : ℕ → ℕ) (P : ℕ → A → T
 abbrev pub row_of : {H S T : Type 0} → LinkedHost H S T → HostSeats S T
 row_of {H} {S} {T} linked_host = record { by_thread = linked_host.by_thread }
 
--- the same, of the machines of some hosts
+-- `MachineBack` for the machines of these hosts.
 pub record AllBack {S T A : Type 0} (end_of : ℕ → ℕ) (P : ℕ → A → Type 0) (count : ℕ) (rows : List (HostSeats S T)) (old new : List (Option A)) : Type 0 where
   pub long : length new ≡ length old
   pub keeps : (c : ℕ) → c < count → IsBack P c old → IsBack P c new
@@ -56,21 +56,21 @@ module _ {X S T : Type 0} (takes_from : X → S → Type 0) (puts_into : X → T
     pub known : machine_seats.machine < length stations
     pub seats : (s : Station) → HasSeats takes_from puts_into taking putting flow net links machine_seats.machine (slice_index_or stations machine_seats.machine s).ins (slice_index_or stations machine_seats.machine s).outs (machine_at machines machine_seats.machine) machine_seats.takes.items machine_seats.puts.items
 
-  -- the same of all machines of a host
+  -- `IsOwned` for all machines of a host
   abbrev pub AreOwned : List Station → List (MachineSeats S T) → Type 0
   AreOwned stations by_thread = (k : ℕ) (d : MachineSeats S T) → k < length by_thread → IsOwned stations (slice_index_or by_thread k d)
 
-  -- the same of all machines of these hosts
+  -- `IsOwned` for all machines of these hosts
   abbrev pub AllOwned : List Station → List (HostSeats S T) → Type 0
   AllOwned stations rows = (j : ℕ) (r : HostSeats S T) → j < length rows → AreOwned stations (slice_index_or rows j r).by_thread.items
 
--- Hosts with so many threads have these stations.
+-- Hosts with these numbers of threads have these stations.
 pub record WereStationed (stations : List Station) (threads : List ℕ) : Type 0 where
   pub hosts : List (List Machine)
   pub stationed : AreStationed hosts stations
   pub sizes : threads ≡ map (λ (l : List Machine). length l) hosts
 
--- A network was made of hosts with so many threads, in this shape.
+-- A network was made of hosts with these numbers of threads, in this shape.
 pub record WasJoined (flow : Flow) (net : Network) (shape : Shape) (threads : List ℕ) : Type 0 where
   pub hosts : List (List Machine)
   pub queues : List Held
@@ -78,19 +78,19 @@ pub record WasJoined (flow : Flow) (net : Network) (shape : Shape) (threads : Li
   pub is : net ≡ joined hosts shape queues
   pub sizes : threads ≡ map (λ (l : List Machine). length l) hosts
 
--- Each channel of the network was given a link, with seats that count what the network's machines count.
+-- Each channel of the network was given a link, with seats that have the counts of the network's machines.
 pub record WereLinked {X S T : Type 0} (takes_from : X → S → Type 0) (puts_into : X → T → Type 0) (taking : S → SeatState) (putting : T → SeatState) (flow : Flow) (net : Network) (links : List X) (queues : List Held) : Type 0 where
   pub put_seats : List T
   pub take_seats : List S
   pub linked : Linked takes_from puts_into taking putting flow net net.machines links put_seats take_seats queues
   pub all : length links ≡ length net.wires
 
--- there is a seat for each of so many channels, with this property
+-- there is a seat for each of `count` channels, with this property
 pub record AreSeats {A : Type 0} (P : ℕ → A → Type 0) (count : ℕ) (seats : List A) : Type 0 where
   pub long : length seats ≡ count
   pub each : (c : ℕ) (s : A) → c < count → P c (slice_index_or seats c s)
 
--- The lists are empty, with room for so many hosts and channels.
+-- The lists are empty, with room for this many hosts and channels.
 pub record AreReturnLists {H S T : Type 0} (hosts channels : ℕ) (return_lists : ReturnLists H S T) : Type 0 where
   pub none : (return_lists.hosts.items ≡ []) × (return_lists.rows.items ≡ []) × (return_lists.takes.items ≡ []) × (return_lists.puts.items ≡ [])
   pub room : (hosts ≤ vec_capacity return_lists.hosts) × (hosts ≤ vec_capacity return_lists.rows) × (channels ≤ vec_capacity return_lists.takes) × (channels ≤ vec_capacity return_lists.puts)

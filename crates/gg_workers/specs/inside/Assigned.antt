@@ -5,7 +5,7 @@ use Rattle.std.specs.Vec.{vec_capacity}
 use Rattle.gg_workers.specs.declared.worker.LinkedHost.{LinkedHost}
 use Rattle.gg_workers.specs.declared.worker.Worker.{Worker}
 
--- the hosts of worker j from h on, d of all
+-- the hosts of worker j, in falling order, among the d hosts that begin with h
 abbrev pub share_of : ℕ → ℕ → ℕ → ℕ → List ℕ
 share_of w j h zero = []
 share_of w j h (suc d) = share_of w j (h + 1) d ++ (if nat_eq (h % w) j then h ∷ [] else [])
@@ -16,8 +16,8 @@ module _ {H S T : Type 0} where
     pub below : s.number < length ss
     pub there : (d : LinkedHost H S T) → slice_index_or ss s.number d ≡ s
 
-  -- While hosts are assigned: the first h of all are left, as they were; the d behind them are with their workers, each worker has its
-  -- share of them in falling order, and it has room for those that are left.
+  -- While hosts are assigned: the first h of all are left, as they were. The other d are with their workers. Each worker has its share of them in
+  -- falling order, and room for the hosts that are left.
   pub record Assigning (ss0 : List (LinkedHost H S T)) (w h d : ℕ) (rest : List (LinkedHost H S T)) (ws : List (Worker H S T)) : Type 0 where
     pub count : length ws ≡ w
     pub long : length rest ≡ h
@@ -35,8 +35,8 @@ module _ {H S T : Type 0} where
     pub place_in : (e : Worker H S T) → place < length (slice_index_or ws worker e).linked_hosts.items
     pub there : (e : Worker H S T) (f : LinkedHost H S T) → slice_index_or (slice_index_or ws worker e).linked_hosts.items place f ≡ s
 
-  -- While hosts are collected: the first m are back, in the order of their numbers; each worker still has its share of the d others, which
-  -- are the first of those that it had.
+  -- While hosts are collected: the first m are back, in the order of their numbers. Each worker still has its share of the d others, which are the
+  -- first of its old hosts.
   pub record Collecting (ws0 : List (Worker H S T)) (w m d : ℕ) (ws : List (Worker H S T)) (ss : List (LinkedHost H S T)) : Type 0 where
     pub count : length ws ≡ w
     pub count0 : length ws0 ≡ w

@@ -15,7 +15,7 @@ pub record IsRowOf {A : Type 0} (all : List A) (channels : List ℕ) (row : List
   pub each : (k : ℕ) (a : A) → k < length channels → slice_index_or row k a ≡ slice_index_or all (value_at channels k) a
 
 module _ {S T : Type 0} where
-  -- The lists are those of machine m, at this station. They are empty, with room for the seats of the machine's channels.
+  -- The lists of machine m, at this station. They are empty, with room for the seats of the machine's channels.
   pub record IsEmptyFor (m : ℕ) (station : Station) (machine_seats : MachineSeats S T) : Type 0 where
     pub machine : machine_seats.machine ≡ m
     pub no_takes : machine_seats.takes.items ≡ []
@@ -23,13 +23,13 @@ module _ {S T : Type 0} where
     pub takes_room : length station.ins ≤ vec_capacity machine_seats.takes
     pub puts_room : length station.outs ≤ vec_capacity machine_seats.puts
 
-  -- The lists are those of machine m, at this station. They have the seats of the machine's channels.
+  -- The lists of machine m, at this station. They have the seats of the machine's channels.
   pub record IsFilledFor (all_takes : List S) (all_puts : List T) (m : ℕ) (station : Station) (machine_seats : MachineSeats S T) : Type 0 where
     pub machine : machine_seats.machine ≡ m
     pub takes : IsRowOf all_takes station.ins machine_seats.takes.items
     pub puts : IsRowOf all_puts station.outs machine_seats.puts.items
 
-  -- the seats of the machine that a station says
+  -- the seats of the machine at a station
   abbrev pub seats_at : List (HostSeats S T) → Station → HostSeats S T → MachineSeats S T → MachineSeats S T
   seats_at rows station row machine_seats = slice_index_or (slice_index_or rows station.host row).by_thread.items station.thread machine_seats
 

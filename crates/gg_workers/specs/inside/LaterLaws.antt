@@ -19,5 +19,5 @@ FallsByReady =
     → Kept flow old → IsLater flow upto old new
     -- These events are different, each may be done in the first network, and its machine is below that cycle.
     → AllPairs (λ a b. a ≢ b) ready → All (λ e. Ready old e × (cycle_at old (machine_of old e) < upto)) ready
-    -- The measure of the first is at least that of the second and as many steps as there are such events.
+    -- The measure of the first is at least the measure of the second and the number of these events together.
     → length ready + net_left new ≤ net_left old

@@ -39,18 +39,18 @@ module _ {X S T : Type 0} (takes_from : X → S → Type 0) (puts_into : X → T
 
 -- ---- hosts
 
--- Each thread of a host has seats for which this holds.
+-- Each thread of a host has seats with this property.
 pub record EachThread {S T : Type 0} (P : ℕ → ℕ → Machine → MachineSeats S T → Type 0) (h : ℕ) (machines : List Machine) (by_thread : List (MachineSeats S T)) : Type 0 where
   pub count : length by_thread ≡ length machines
   pub each : (t : ℕ) (d : MachineSeats S T) → t < length by_thread → P h t (machine_at machines t) (slice_index_or by_thread t d)
 
 module _ {H S T : Type 0} (machines : H → List Machine) (threads : List ℕ) (P : ℕ → ℕ → Machine → MachineSeats S T → Type 0) where
-  -- A host has seats for each of its threads, for which this holds.
+  -- A host has seats with this property for each of its threads.
   pub record IsLinkedHost (linked_host : LinkedHost H S T) : Type 0 where
     pub by_thread : EachThread P linked_host.number (machines linked_host.host) linked_host.by_thread.items
     pub count : length linked_host.by_thread.items ≡ value_at threads linked_host.number
 
-  -- the same of all hosts of a list
+  -- `IsLinkedHost` for all hosts of a list
   abbrev pub AreLinkedHosts : List (LinkedHost H S T) → Type 0
   AreLinkedHosts linked_hosts = (k : ℕ) (b : LinkedHost H S T) → k < length linked_hosts → IsLinkedHost (slice_index_or linked_hosts k b)
 

@@ -18,13 +18,13 @@ module _ {H S T : Type 0} where
     pub host : (k : ℕ) (b : LinkedHost H S T) (a : H) → k < length linked_hosts → (slice_index_or linked_hosts k b).host ≡ slice_index_or hosts k a
     pub by_thread : (k : ℕ) (b : LinkedHost H S T) (r : HostSeats S T) → k < length linked_hosts → (slice_index_or linked_hosts k b).by_thread.items ≡ (slice_index_or rows k r).by_thread.items
 
-  -- These are so many workers without hosts, each with room for all.
+  -- These are `count` workers without hosts, each with room for `hosts` of them.
   pub record AreIdle (count hosts : ℕ) (workers : List (Worker H S T)) : Type 0 where
     pub long : length workers ≡ count
     pub none : (j : ℕ) (w : Worker H S T) → j < length workers → (slice_index_or workers j w).linked_hosts.items ≡ []
     pub room : (j : ℕ) (w : Worker H S T) → j < length workers → hosts ≤ vec_capacity (slice_index_or workers j w).linked_hosts
 
-  -- There is room for hosts with these machines, for the seats of so many channels, and in so many workers.
+  -- There is room for hosts with these machines, for the seats of this many channels, and in this many workers.
   pub record IsReserved (machines : List (List Machine)) (stations : List Station) (channels workers : ℕ) (setup : Setup H S T) : Type 0 where
     pub threads : setup.threads.items ≡ map (λ own. length own) machines
     pub places : HasPlaces machines setup.rows.items

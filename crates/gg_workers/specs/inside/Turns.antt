@@ -1,11 +1,12 @@
--- The turns of a worker: which steps were done in them, and in which order a turn goes through the hosts.
+-- The turns of a worker: the steps that were done in them, and the order of a turn through the hosts.
 -- Source: this program's own.
 use Rattle.std.specs.Prelude.{◌≡◌, ℕ, ◌<◌, List, Bool, true, false, length, map, slice_index_or, sum_by}
 use Rattle.gg_node.specs.Machine.{Machine}
 use Rattle.gg_workers_pass.specs.inside.Rows.{steps_by}
 use Rattle.gg_workers.specs.declared.worker.LinkedHost.{LinkedHost}
 
--- Each number is less than all before it. A worker's hosts lie so, and a turn goes through them from the last.
+-- Each number is less than all before it. A worker's hosts are in this order, and a turn goes through them from the
+-- last.
 abbrev pub Falls : List ℕ → Type 0
 Falls numbers = (i k d : ℕ) → i < k → k < length numbers → slice_index_or numbers k d < slice_index_or numbers i d
 

@@ -1,6 +1,6 @@
--- More on Pass: what no promise of the program's speaks of.
+-- More on Pass: definitions that no promise of the program reaches.
 -- Source: MEMOCODE 2009 (a node takes its tokens, gives its tokens and then finishes its cycle, as its latches and flags
--- allow). Which events a pass tries, and in which order, is this program's own.
+-- allow). The choice and the order of the events that a pass tries are this program's own.
 use Rattle.std.specs.Prelude.{◌≡◌, ℕ, ◌+◌, ◌*◌, ◌<◌, ◌≤◌, List, None, true, false, length, slice_index_or}
 use Rattle.gg_flat.specs.Line.{value_at}
 use Rattle.gg_flat.specs.Streams.{Flow}
@@ -29,8 +29,8 @@ puts_by frame x c = and_one x.cycle (flag_at x.flags (wire_at frame.wires c).out
 abbrev pub serves_by : Machine → ℕ
 serves_by x = length x.ports * x.cycle + x.served
 
--- Machine m has gone on: none of its counts has fallen, and none is above both what `upto` cycles make of it and what it
--- was.
+-- Machine m has gone on: none of its counts has fallen, and none is above both its old value and its number after
+-- `upto` cycles.
 pub record MachineWentOn (frame : Frame) (m upto : ℕ) (old new : Machine) : Type 0 where
   pub kind : kind_of new ≡ kind_of old
   pub cycle : RisesTo upto old.cycle new.cycle
@@ -41,8 +41,8 @@ pub record MachineWentOn (frame : Frame) (m upto : ℕ) (old new : Machine) : Ty
 -- ---- a machine with its seats
 
 module _ {X S T : Type 0} (takes_from : X → S → Type 0) (puts_into : X → T → Type 0) (taking : S → SeatState) (putting : T → SeatState) (flow : Flow) (net : Network) (links : List X) where
-  -- This can be the machine at place m. It has the seats of the channels at its ins and outs, by place, which count what
-  -- it counts.
+  -- This can be the machine at place m. It has the seats of the channels at its ins and outs, by place, and they count
+  -- what it counts.
   pub record HasSeats (m : ℕ) (ins outs : List ℕ) (x : Machine) (take_seats : List S) (put_seats : List T) : Type 0 where
     pub machine : MachineAt flow (frame_of net) m x
     pub takes : SeatsByPlace takes_from taking flow net (takes_by (frame_of net) x) links ins take_seats
@@ -55,7 +55,7 @@ module _ {S T : Type 0} (taking : S → SeatState) (putting : T → SeatState) w
     pub takes : (k : ℕ) (s : S) → k < length ins → ((taking (slice_index_or take_seats k s)).count ≡ 0) × ((taking (slice_index_or take_seats k s)).seen ≡ length (queue_at net.queues (value_at ins k)))
     pub puts : (k : ℕ) (s : T) → k < length outs → (putting (slice_index_or put_seats k s)).count ≡ length (queue_at net.queues (value_at outs k))
 
-  -- What could be done before a pass was done in it, as far as the seats knew of tokens and of room. The machine was x
+  -- A pass has done all that could be done before it, as far as the seats knew of tokens and of room. The machine was x
   -- with these seats, and is y.
   pub record KnownDone (frame : Frame) (upto : ℕ) (ins outs : List ℕ) (x : Machine) (take_seats : List S) (put_seats : List T) (y : Machine) : Type 0 where
     pub latch : (k : ℕ) (s : S) → k < length ins → StandsBelow upto x → latch_at x.latches k ≡ None → (taking (slice_index_or take_seats k s)).count < (taking (slice_index_or take_seats k s)).seen → takes_by frame x (value_at ins k) < takes_by frame y (value_at ins k)
@@ -63,14 +63,14 @@ module _ {S T : Type 0} (taking : S → SeatState) (putting : T → SeatState) w
     pub serve : (p : ℕ) → StandsBelow upto x → ServeIsDue x p → serves_by x < serves_by y
     pub finish : StandsBelow upto x → FinishIsDue x → x.cycle < y.cycle
 
-  -- The same of the chosen events.
+  -- `KnownDone` for the chosen events only.
   pub record ChosenDone (frame : Frame) (upto : ℕ) (chosen : Chosen) (ins outs : List ℕ) (x : Machine) (take_seats : List S) (put_seats : List T) (y : Machine) : Type 0 where
     pub latch : (k : ℕ) (s : S) → chosen.first_in ≤ k → k < chosen.past_in → k < length ins → StandsBelow upto x → latch_at x.latches k ≡ None → (taking (slice_index_or take_seats k s)).count < (taking (slice_index_or take_seats k s)).seen → takes_by frame x (value_at ins k) < takes_by frame y (value_at ins k)
     pub fire : (k : ℕ) (s : T) → chosen.first_out ≤ k → k < chosen.past_out → k < length outs → StandsBelow upto x → flag_at x.flags k ≡ false → missing x k ≡ None → (putting (slice_index_or put_seats k s)).count < (putting (slice_index_or put_seats k s)).seen + (putting (slice_index_or put_seats k s)).capacity → puts_by frame x (value_at outs k) < puts_by frame y (value_at outs k)
     pub serve : (p : ℕ) → chosen.serves ≡ true → StandsBelow upto x → ServeIsDue x p → serves_by x < serves_by y
     pub finish : chosen.finishes ≡ true → StandsBelow upto x → FinishIsDue x → x.cycle < y.cycle
 
--- Each event of machine m that could be done in the network was done, if the machine was below `upto` there. It is y.
+-- Machine m was below `upto` in the network: then each of its events that could be done there was done. It is y now.
 pub record EventsDone (net : Network) (m upto : ℕ) (y : Machine) : Type 0 where
   pub latch : (c : ℕ) → Ready net (Latch c) → (wire_at net.wires c).consumer ≡ m → StandsBelow upto (machine_at net.machines m) → takes net c < takes_by (frame_of net) y c
   pub fire : (c : ℕ) → Ready net (Fire c) → (wire_at net.wires c).producer ≡ m → StandsBelow upto (machine_at net.machines m) → puts net c < puts_by (frame_of net) y c
@@ -85,7 +85,7 @@ module _ {X S T : Type 0} (takes_from : X → S → Type 0) (puts_into : X → T
   HasSeatsAt m station machines machine_seats = HasSeats takes_from puts_into taking putting flow net links m station.ins station.outs (machine_at machines station.thread) machine_seats.takes.items machine_seats.puts.items
 
 module _ {S T : Type 0} (taking : S → SeatState) (putting : T → SeatState) where
-  -- What these seats knew that the first could do was done. It is now the second.
+  -- A pass from the first machines to the second has done all that these seats knew could be done.
   abbrev pub KnownDoneAt : Frame → ℕ → Station → List Machine → MachineSeats S T → List Machine → Type 0
   KnownDoneAt frame upto station old machine_seats new = KnownDone taking putting frame upto station.ins station.outs (machine_at old station.thread) machine_seats.takes.items machine_seats.puts.items (machine_at new station.thread)
 
@@ -97,6 +97,6 @@ module _ {S T : Type 0} (taking : S → SeatState) (putting : T → SeatState) w
       -- Each of its events that could be done in the network was done.
       → EventsDone net machine_seats.machine upto (machine_at new station.thread)
 
-  -- the same of the chosen events
+  -- `KnownDoneAt` for the chosen events only
   abbrev pub ChosenDoneAt : Frame → ℕ → Chosen → Station → List Machine → MachineSeats S T → List Machine → Type 0
   ChosenDoneAt frame upto chosen station old machine_seats new = ChosenDone taking putting frame upto chosen station.ins station.outs (machine_at old station.thread) machine_seats.takes.items machine_seats.puts.items (machine_at new station.thread)

@@ -1,4 +1,4 @@
--- What a row of tries has done to one machine and its seats. The seats stand in the order of the ins, or of the outs.
+-- A row of tries of one machine, and its seats. The seats are in the order of the ins, or of the outs.
 -- Source: MEMOCODE 2009 (a node takes a token from each input queue once in a cycle).
 use Rattle.std.specs.Prelude.{◌≡◌, ℕ, ◌+◌, ◌*◌, ◌<◌, ◌≤◌, List, Option, Some, None, Bool, true, false, IsSome, is_some, count_by, length, slice_index_or, slice_get}
 use Rattle.gg_flat.specs.Line.{value_at}
@@ -12,7 +12,7 @@ use Rattle.gg_net.specs.inside.Parted.{takes_by, enters_by}
 use Rattle.gg_workers_pass.specs.inside.Seats.{SeatCounts}
 use Rattle.gg_workers_pass.specs.inside.Tries.{ServeIsDue}
 
--- Each place of these channels has a seat of its channel's link, which counts what is said.
+-- Each place of these channels has a seat of its channel's link, with this count of its channel.
 pub record SeatsByPlace {X S : Type 0} (of : X → S → Type 0) (part : S → SeatState) (flow : Flow) (net : Network) (count : ℕ → ℕ) (links : List X) (channels : List ℕ) (seats : List S) : Type 0 where
   pub long : length seats ≡ length channels
   pub belongs : (k : ℕ) (s : S) (link : X) → k < length channels → slice_get links (value_at channels k) ≡ Some link → of link (slice_index_or seats k s)

@@ -1,4 +1,4 @@
--- What the seats of a network's links count, while links stand for its first channels and queues for the others.
+-- The seats of a network's links and their counts. The first channels have links, the others queues.
 -- Source: MEMOCODE 2009 (a queue holds the tokens that were put and not yet taken).
 use Rattle.std.specs.Prelude.{◌≡◌, ℕ, ◌+◌, ◌<◌, ◌≤◌, List, [], Some, length, slice_index_or, slice_get}
 use Rattle.gg_flat.specs.Streams.{Flow}
@@ -18,11 +18,11 @@ pub record SeatCounts (flow : Flow) (net : Network) (c n : ℕ) (seat : SeatStat
 
 -- The seats of the machines in this list.
 module _ {X S T : Type 0} (takes_from : X → S → Type 0) (puts_into : X → T → Type 0) (taking : S → SeatState) (putting : T → SeatState) (flow : Flow) (net : Network) (links : List X) (machines : List Machine) where
-  -- a seat of the link of a channel, which counts what the channel's consumer counts
+  -- a seat of the link of a channel, with the count of the channel's consumer
   abbrev pub TakeSeatOf : ℕ → S → Type 0
   TakeSeatOf c seat = ((link : X) → slice_get links c ≡ Some link → takes_from link seat) × SeatCounts flow net c (takes_by (frame_of net) (machine_at machines (wire_at net.wires c).consumer) c) (taking seat)
 
-  -- a seat of the link of a channel, which counts what the channel's producer counts
+  -- a seat of the link of a channel, with the count of the channel's producer
   abbrev pub PutSeatOf : ℕ → T → Type 0
   PutSeatOf c seat = ((link : X) → slice_get links c ≡ Some link → puts_into link seat) × SeatCounts flow net c (enters_by (frame_of net) (machine_at machines (wire_at net.wires c).producer) c) (putting seat)
 
@@ -34,21 +34,21 @@ with_tokens queue tokens = record { tokens = tokens; room = queue.room }
 abbrev pub emptied : Held → Held
 emptied queue = with_tokens queue []
 
--- Each of these machines may stand at its place.
+-- Each of these machines can be the one at its place.
 pub record MayStand (flow : Flow) (net : Network) (machines : List Machine) : Type 0 where
   pub long : length machines ≡ length net.machines
   pub each : (m : ℕ) → m < length net.machines → MachineAt flow (frame_of net) m (machine_at machines m)
 
 module _ {X S T : Type 0} (takes_from : X → S → Type 0) (puts_into : X → T → Type 0) (taking : S → SeatState) (putting : T → SeatState) (flow : Flow) (net : Network) (machines : List Machine) where
-  -- A link of channel c has these seats, which count what these machines count.
+  -- A link of channel c has these seats, with the counts of these machines.
   pub record LinkSeats (c : ℕ) (link : X) (put : T) (take : S) : Type 0 where
     pub into : puts_into link put
     pub from : takes_from link take
     pub given : SeatCounts flow net c (enters_by (frame_of net) (machine_at machines (wire_at net.wires c).producer) c) (putting put)
     pub got : SeatCounts flow net c (takes_by (frame_of net) (machine_at machines (wire_at net.wires c).consumer) c) (taking take)
 
-  -- The first channels have links with seats, and their queues are empty. The queues of the others hold the tokens between
-  -- the counts of these machines.
+  -- The first channels have links with seats, and their queues are empty. The queues of the others contain the tokens between the counts of these
+  -- machines.
   pub record Linked (links : List X) (put_seats : List T) (take_seats : List S) (queues : List Held) : Type 0 where
     pub few : length links ≤ length net.wires
     pub put_count : length put_seats ≡ length links

@@ -1,4 +1,4 @@
--- More on Tries: what no promise of the program's speaks of.
+-- More on Tries: definitions that no promise of the program reaches.
 -- Source: MEMOCODE 2009 (when a node takes a token, gives one and finishes a cycle); ICCAD 2019 for memories that are
 -- served port by port.
 use Rattle.std.specs.Prelude.{◌≡◌, ℕ, ◌+◌, List, Some, None, Bool, true, false, slice_set, slice_get}
@@ -28,7 +28,7 @@ pub record HasNotLatched (old : List Machine) (thread place : ℕ) (before : Sea
   pub count : after.count ≡ before.count
   pub cause : latch_at (machine_at old thread).latches place ≡ None → after.seen ≡ after.count
 
--- what a try of `Latch` did, by whether it latched a token
+-- the effect of a try of `Latch`, by whether it latched a token
 abbrev pub LatchTried : List Machine → ℕ → ℕ → SeatState → List Machine → SeatState → Bool → Type 0
 LatchTried old thread place before new after true = HasLatched old thread place before new after
 LatchTried old thread place before new after false = HasNotLatched old thread place before new after
@@ -49,7 +49,7 @@ pub record HasNotFired (old : List Machine) (thread place : ℕ) (before : SeatS
   pub count : after.count ≡ before.count
   pub cause : flag_at (machine_at old thread).flags place ≡ false → missing (machine_at old thread) place ≡ None → after.seen + after.capacity ≡ after.count
 
--- what a try of `Fire` did, by whether it gave a token
+-- the effect of a try of `Fire`, by whether it gave a token
 abbrev pub FireTried : List Machine → ℕ → ℕ → SeatState → List Machine → SeatState → Bool → Type 0
 FireTried old thread place before new after true = HasFired old thread place before new after
 FireTried old thread place before new after false = HasNotFired old thread place before new after
@@ -73,7 +73,7 @@ pub record HasNotServed (old : List Machine) (thread : ℕ) (new : List Machine)
   pub same : new ≡ old
   pub cause : (port : ℕ) → ServeIsDue (machine_at old thread) port → ⊥
 
--- what a try of `Serve` did, by whether it served a port
+-- the effect of a try of `Serve`, by whether it served a port
 abbrev pub ServeTried : List Machine → ℕ → List Machine → Bool → Type 0
 ServeTried old thread new true = HasServed old thread new
 ServeTried old thread new false = HasNotServed old thread new
@@ -98,12 +98,12 @@ pub record HasNotFinished (old : List Machine) (thread : ℕ) (new : List Machin
   pub same : new ≡ old
   pub cause : FinishIsDue (machine_at old thread) → ⊥
 
--- what a try of `Finish` did, by whether it finished the cycle
+-- the effect of a try of `Finish`, by whether it finished the cycle
 abbrev pub FinishTried : List Machine → ℕ → List Machine → Bool → Type 0
 FinishTried old thread new true = HasFinished old thread new
 FinishTried old thread new false = HasNotFinished old thread new
 
--- what was done by whether the end of a cycle was to be tried, and by whether it was done
+-- the end of a cycle was tried, by whether it was done; or it wasn't to be tried, and nothing was done
 abbrev pub FinishTriedIf : Bool → List Machine → ℕ → List Machine → Bool → Type 0
 FinishTriedIf true old thread new done = FinishTried old thread new done
 FinishTriedIf false old thread new done = (done ≡ false) × (new ≡ old)

@@ -1,6 +1,5 @@
--- More on Bridges: what no promise of the program's speaks of.
--- Source: ICCAD 2019 (bridges: models in the host's own code that stand at a target's ports). The form of a name and the limit are this
--- program's own.
+-- More on Bridges: definitions that no promise of the program reaches.
+-- Source: ICCAD 2019 (bridges: models in the host's own code at a target's ports). The form of a name and the limit are this program's own.
 use Rattle.std.specs.Prelude.{◌≡◌, ℕ, List}
 use Rattle.gg_flat.specs.Circuit.{FlatCircuit}
 use Rattle.gg_flat.specs.State.{State}

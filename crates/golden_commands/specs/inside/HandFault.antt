@@ -1,4 +1,4 @@
--- Whether a bridge can be handed in beside others.
+-- Whether a bridge can be handed in together with others.
 -- Source: none; the form of a name and the limit are this program's own.
 use Rattle.std.specs.Prelude.{◌≡◌, ℕ, ◌+◌, Bool, not, ◌&&◌, ◌==◌, if◌then◌else◌, List, length, map, sum, Option, Some, None, bytes_eq, nat_lt}
 use Rattle.std.specs.List.{list_all, list_any}
@@ -21,7 +21,7 @@ is_taken bridges name = list_any (λ pair. bytes_eq pair.0 name) bridges
 abbrev pub signals_of : {B : Type 0} → (piece : B → FlatCircuit) → List (List ℕ × B) → ℕ
 signals_of piece bridges = sum (map (λ pair. length (piece pair.1).signals) bridges)
 
--- the first reason for which a bridge of this name can't be handed in beside these
+-- the first reason why a bridge of this name can't be handed in together with these
 abbrev pub hand_fault : {B : Type 0} → (piece : B → FlatCircuit) → List (List ℕ × B) → List ℕ → B → Option HandFault
 hand_fault piece bridges name bridge =
     if not (has_name name) then Some Name

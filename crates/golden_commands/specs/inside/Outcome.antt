@@ -1,4 +1,4 @@
--- More on Outcome: what no promise of the program's speaks of.
+-- More on Outcome: definitions that no promise of the program reaches.
 -- Source: this program's own.
 use Rattle.std.specs.Prelude.{◌≡◌, ℕ, List, Result}
 use Rattle.std.specs.Io.KnownBytes.{append_known}

@@ -1,7 +1,7 @@
--- More on Partition: what no promise of the program's speaks of.
+-- More on Partition: definitions that no promise of the program reaches.
 -- Sources: RFC 8259 and ICCAD 2019, as named in the crates that read a partition and check it. The numbers of the
--- faults are this program's own: P1 is a fault of the file, P2 to P16 are faults, for a design and for the models that are
--- handed in, of the request that it holds, and P17 is one of the request for a command.
+-- faults are this program's own: P1 is a fault of the file, P2 to P16 are faults of its request for a design and for the
+-- models that are handed in, and P17 is a fault of the request for a command.
 use Rattle.std.specs.Prelude.{ℕ, List}
 use Rattle.gg_order.specs.Design.{Ordered}
 use Rattle.gg_io.specs.Order.{File}

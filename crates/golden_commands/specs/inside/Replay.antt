@@ -1,4 +1,4 @@
--- More on Replay: what no promise of the program's speaks of.
+-- More on Replay: definitions that no promise of the program reaches.
 -- Sources: MEMOCODE 2009 (the k-th token of each channel is the value of its signal in cycle k, in any order of steps).
 -- The lines and the forms of a steps file are this program's own.
 use Rattle.std.specs.Prelude.{ℕ, List}

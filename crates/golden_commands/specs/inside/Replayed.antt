@@ -1,4 +1,4 @@
--- More on Replayed: what no promise of the program's speaks of.
+-- More on Replayed: definitions that no promise of the program reaches.
 -- Source: this program's own.
 use Rattle.std.specs.Prelude.{◌≡◌, ℕ, ◌<◌, ◌^◌, length}
 use Rattle.gg_flat.specs.Run.{Start}
@@ -24,7 +24,7 @@ pub record AreFewNames (plan : Plan) (tree : InstanceTree) : Type 0 where
 abbrev pub fed_start : Fed → Start
 fed_start fed = plan_start fed.case.design fed.case.cut.request
 
--- The plan's network can be run from there for this flow, on what was read.
+-- The plan's network can be run from there for this flow, on these files.
 pub record IsToReplay (fed : Fed) (flow : Flow) : Type 0 where
   pub run : IsToRunFrom fed.case.cut.plan (fed_start fed) fed.trace.columns fed.trace.rows flow
   pub of_design : run.design ≡ fed.case.design

@@ -1,4 +1,4 @@
--- More on Run: what no promise of the program's speaks of.
+-- More on Run: definitions that no promise of the program reaches.
 -- Source: this program's own, by the crates that define circuits, traces and runs.
 use Rattle.std.specs.Prelude.{ℕ, List}
 use Rattle.gg_flat.specs.Circuit.{FlatCircuit}

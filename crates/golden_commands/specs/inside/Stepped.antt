@@ -1,4 +1,4 @@
--- More on Stepped: what no promise of the program's speaks of.
+-- More on Stepped: definitions that no promise of the program reaches.
 -- Sources: MEMOCODE 2009 (a network goes on by steps, one node at a time, and the k-th token of each channel is the value of its signal in
 -- cycle k). The text is this program's own.
 use Rattle.std.specs.Prelude.{◌≡◌, ℕ, List}
@@ -11,9 +11,9 @@ use Rattle.golden_commands.specs.inside.Replay.{IsReplayed}
 use Rattle.golden_commands.specs.Replay.{TellsSteps}
 use Rattle.golden_commands.specs.Stepped.{IsSteppedText, RefusedStep, TellsRefusedStep, WroteSteps}
 
--- ---- of bytes
+-- ---- bytes
 
--- each step may be done, and this is their text and that of the network, the only one
+-- each step may be done, and this is the only text of the steps, and the only text of the network
 pub record IsToldText (known : Known) (circuit partition trace : List ℕ) (capacity : ℕ) (steps text : List ℕ) : Type 0 where
   pub of_steps : IsReplayed known circuit partition trace capacity steps text
   pub of_network : IsOnly (IsSteppedText known circuit partition trace capacity steps) text
@@ -23,9 +23,9 @@ pub record TellsToldStep (known : Known) (circuit partition trace : List ℕ) (c
   pub of_steps : TellsSteps known circuit partition trace capacity steps said
   pub of_network : TellsRefusedStep known circuit partition trace capacity steps said
 
--- ---- of files
+-- ---- files
 
--- What was reported with status 0 or 9 behind the bytes of a circuit, a partition and a trace: the text was written, or a step was refused.
+-- The report with status 0 or 9 after these bytes of a circuit, a partition and a trace: the text was written, or a step was refused.
 pub record ToldBehind (known : Known) (files : List ℕ → Told) (out : Puts) (circuit partition trace : List ℕ) (capacity : ℕ) (steps : List ℕ) (said : Said) : Type 0 where
   pub wrote : said.status ≡ 0 → WroteSteps known files out circuit partition trace capacity steps
   pub refused : said.status ≡ 9 → RefusedStep known files circuit partition trace capacity steps said

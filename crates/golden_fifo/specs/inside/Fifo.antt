@@ -18,11 +18,11 @@ use Rattle.golden_fifo.specs.declared.model.Place.{Place}
 abbrev pub given : Ty → ℕ → Signal
 given ty place = record { ty = ty; driver = Input place }
 
--- a signal that has what a register holds
+-- a signal with the value of a register
 abbrev pub held : Ty → ℕ → Signal
 held ty register = record { ty = ty; driver = Held register }
 
--- a register that keeps what `own` has as long as `full` is 1, and else takes what `behind` has
+-- a register that keeps the value of `own` as long as `full` is 1, and otherwise takes the value of `behind`
 abbrev pub taking : (bit : Ty) → (full : ℕ) → Ty → (own behind : ℕ) → Register
 taking bit full ty own behind =
     record {
@@ -49,7 +49,7 @@ fifo_signals bit ty =
       clocks = 0;
     }
 
--- A full place is full as long as the next one is, the first as long as `stop` is 1. An empty one takes what is behind it.
+-- A full place is full as long as the next one is, the first as long as `stop` is 1. An empty one takes the value of the place before it.
 abbrev pub fifo_registers : Ty → Ty → List Register
 fifo_registers bit ty =
     taking bit 3 bit 2 5 ∷ taking bit 3 ty 4 6 ∷ taking bit 5 bit 3 7 ∷ taking bit 5 ty 6 8 ∷ taking bit 7 bit 5 9 ∷ taking bit 7 ty 8 10
@@ -75,7 +75,7 @@ fifo_piece bit ty =
 abbrev pub empty_place : Place
 empty_place = record { full = 0; value = 0 }
 
--- the state in which the four places have this, from the one that hands on first
+-- the state of these four places, starting with the place that hands on first
 abbrev pub fifo_state : (first second third fourth : Place) → State
 fifo_state first second third fourth =
     record {
@@ -83,11 +83,11 @@ fifo_state first second third fourth =
       banks = [];
     }
 
--- a place after a cycle, with what is behind it, and whether it can't hand its value on
+-- a place after a cycle: `behind` is the place before it, and `stop` says that it can't hand its value on
 abbrev pub next_place : Place → Place → ℕ → Place
 next_place place behind stop = if place.full == 1 then record { full = stop; value = place.value } else behind
 
--- what a contract sees of a FIFO: its types and its places
+-- a FIFO as contracts see it: its types and its places
 pub record Kept : Type 0 where
   pub bit : Ty
   pub ty : Ty
@@ -101,7 +101,7 @@ pub record IsPlace (width : ℕ) (place : Place) : Type 0 where
   pub bit : place.full < 2
   pub fits : place.value < 2 ^ width
 
--- The circuit is a FIFO of this type, whose flags are one unsigned bit, and each place has its width.
+-- The circuit is a FIFO of this type. Its flags are one unsigned bit, and each place has its width.
 pub record IsFifo (bit ty : Ty) (piece : FlatCircuit) (first second third fourth : Place) : Type 0 where
   pub is : piece ≡ fifo_piece bit ty
   pub flag : shape bit ≡ uint 1

@@ -1,5 +1,5 @@
-//! Runs with echoes, and what `check`, `replay`, `save` and `resume` make of them. Expected texts are worked by a model in Python that has nothing
-//! of golden, and the short ones by hand from docs/FORMATS.md.
+//! Runs with echoes, and `check`, `replay`, `save` and `resume` with them. Expected texts are worked by a model in Python that has nothing of golden,
+//! and the short ones by hand from docs/FORMATS.md.
 
 pub(crate) const BRIDGED: &str = r#"
 given

@@ -1,4 +1,4 @@
-//! What `check` prints.
+//! The texts of `check`.
 
 pub(crate) const UNIT_CUTS: &str = r#"
 given

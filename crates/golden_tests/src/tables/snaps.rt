@@ -1,5 +1,5 @@
-//! `save` and `resume`: the snapshot of a run, the rows from a snapshot on. Expected texts of the counter are worked by hand from docs/FORMATS.md,
-//! those of cuts by a model in Python that has nothing of golden.
+//! `save` and `resume`: the snapshot of a run, and the rows that begin with a snapshot. Expected texts of the counter are worked by hand from
+//! docs/FORMATS.md, and the texts of cuts by a model in Python that has nothing of golden.
 
 pub(crate) const SAVED: &str = r#"
 given

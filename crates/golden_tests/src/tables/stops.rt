@@ -1,4 +1,5 @@
-//! Circuits with stops: which rows are written, what is told of the rest, and what `check` and `replay` show of stops.
+//! Circuits with stops: which rows are written, which faults after a stop are reported, and what `check` and `replay`
+//! show of stops.
 
 pub(crate) const ROWS: &str = r#"
 given

@@ -60,7 +60,7 @@ fn hosts(alloc: Global) -> Result<bool, AllocError> {
     Ok(host.threads() == 1 && host.cycle(0) == 7)
 }
 
-// What an echo says.
+// The value that an echo says.
 fn said_by(alloc: Global, echo: &Echo) -> Result<Vec<u128>, AllocError>
     ensures { IfOk result (λ said. length said.items ≡ 1) }
 {

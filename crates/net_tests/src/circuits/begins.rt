@@ -39,7 +39,7 @@ fn advance(
     requires within { cycle < inputs.now.rows }
     ensures { IsState design.now.circuit state.new }
 {
-    // for the invariant alone: the limit on rows
+    // for the invariant only: the limit on rows
     let _ = inputs.rows();
     let piece = design.piece();
     let timing = Timing::new(alloc, ratios, cycle)?;
@@ -82,7 +82,7 @@ fn begin_in(alloc: Global, state: State) -> Begin
     }
 }
 
-// Whether the last machine is a tray that keeps these values from cycle 2 on, and none of a cycle before.
+// Whether the last machine is a tray that keeps these values, starting at cycle 2, and none of a cycle before.
 fn keeps_from_two<Z: Streams>(net: &Net<Node<'_, Echo>, Z>, outputs: &[u128]) -> bool {
     net.within_limits();
     let machines = net.machines();
@@ -106,8 +106,7 @@ fn gives_from_two<Z: Streams>(mut net: Net<Node<'_, Echo>, Z>, outputs: &[u128])
     begins && keeps_from_two(&net, outputs)
 }
 
-// Whether the network of a plan gives these outputs from there. What it computes is picked where this is called, by the design and the
-// request.
+// Whether the network of a plan gives these outputs from there. The caller picks what it computes, by the design and the request.
 fn is_built_from<Z: Streams>(
     alloc: Global,
     _design: &Design,
@@ -128,7 +127,7 @@ fn is_built_from<Z: Streams>(
     }
 }
 
-// Whether the network of a plan without bridges gives these outputs from cycle 2 on.
+// Whether the network of a plan without bridges gives these outputs, starting at cycle 2.
 fn is_begun(
     alloc: Global,
     design: &Design,
@@ -149,7 +148,7 @@ fn is_begun(
     requires none { models.now ≡ [] }
     requires within { 2 ≤ inputs.now.rows }
 {
-    // for the invariant alone
+    // for the invariant only
     let _ = design.order();
     let _ = design.piece();
     let _ = inputs.rows();
@@ -164,7 +163,7 @@ fn is_begun(
     }
 }
 
-// Whether the network of a design and a request without pipes and bridges gives these outputs from cycle 2 on.
+// Whether the network of a design and a request without pipes and bridges gives these outputs, starting at cycle 2.
 fn is_cut_from(
     alloc: Global,
     design: &Design,
@@ -194,7 +193,7 @@ fn is_cut_from(
     }
 }
 
-// Whether the network of a design and a partition gives these outputs from cycle 2 of a trace on.
+// Whether the network of a design and a partition gives these outputs, starting at cycle 2 of a trace.
 fn is_fed_from(
     alloc: Global,
     design: &Design,
@@ -215,7 +214,7 @@ fn is_fed_from(
     }
 }
 
-// The same for a circuit.
+// Whether the network of a circuit and a partition gives these outputs, starting at cycle 2 of a trace.
 fn is_right(alloc: Global, circuit: &str, partition: &str, trace: &str, outputs: &[u128]) -> bool {
     match design_of(alloc, circuit) {
         Some(design) => is_fed_from(alloc, &design, partition, trace, outputs),
@@ -223,9 +222,9 @@ fn is_right(alloc: Global, circuit: &str, partition: &str, trace: &str, outputs:
     }
 }
 
-// Partitions of two instances, each with a register of one clock and a memory of the other, where one clock has an edge in two of three
-// ticks: both are units on one host; or one is a unit and the memory of the other is a machine of its own, so that the hub has its register: the
-// memory with the clock of each tick, and that with the other clock.
+// Partitions of two instances, each with a register of one clock and a memory of the other. One clock has an edge in two of three ticks. Both
+// instances are units on one host; or one is a unit, the memory of the other is a machine of its own, and the hub has its register: first the memory
+// with the clock of each tick, and then the memory with the other clock.
 static PARTITIONS: [&str; 3] = [
     "{\"units\":[\"u\",\"v\"],\"share\":[[\"u\",\"v\"]],\"clocks\":{\"c2\":[2,3]}}",
     "{\"units\":[\"v\"],\"memories\":[\"u.mid.leaf.m\"],\"clocks\":{\"c2\":[2,3]}}",

@@ -31,7 +31,7 @@ pub(crate) fn check_lines(rt: &impl Abort, alloc: Global) {
     }
 }
 
-// Two channels, of which only the second opens with a token.
+// Two channels. Only the second opens with a token.
 static WIRES: [Wire; 2] = [
     Wire {
         producer: 0,
@@ -51,7 +51,7 @@ static WIRES: [Wire; 2] = [
     },
 ];
 
-// Whether a log of these channels has only the token with which the second opens.
+// Whether a log of these channels has only the token that the second opens with.
 pub(crate) fn has_first_token(alloc: Global) -> Result<bool, AllocError> {
     let log = Log::new(alloc, &WIRES)?;
     Ok(log.tokens(0).is_empty() && log.tokens(1) == [0].as_slice())

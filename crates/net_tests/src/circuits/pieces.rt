@@ -86,7 +86,7 @@ fn has_slots(alloc: Global, piece: &Piece) -> Result<bool, NoMemory>
     Ok(program.slots(alloc).is_ok())
 }
 
-// The first in that the first out of a unit is missing, if the unit runs a piece whose program has slots.
+// The first missing in of the first out of a unit, if the unit runs a piece with slots for its program.
 fn first_missing(alloc: Global, piece: &Piece) -> Result<Option<u32>, NoMemory>
     requires formed { IsWellFormed piece.now }
     requires ordered { IsInOrder piece.now }

@@ -48,7 +48,7 @@ fn gives(mono: &mut Mono<'_>, inputs: &Trace, outputs: &[u128]) -> bool
     true
 }
 
-// Whether the simulator of a design gives these, with clocks of these ratios.
+// Whether the simulator of a design gives these outputs, with clocks of these ratios.
 fn simulates(
     alloc: Global,
     design: &Design,
@@ -97,7 +97,7 @@ fn is_run(alloc: Global, circuit: &str, skips: bool, trace: &str, outputs: &[u12
     }
 }
 
-// The same of a circuit of the table.
+// Whether a circuit of the table gives these outputs.
 fn is_right(alloc: Global, circuit: &Circuit, skips: bool, trace: &str, outputs: &[u128]) -> bool {
     match text_of(alloc, circuit) {
         Ok(text) => is_run(alloc, text.as_str(), skips, trace, outputs),
@@ -110,7 +110,7 @@ static RUNS: [(Circuit, bool, &str, &[u128]); 9] = [
     (Whole(COUNTER), false, COUNTER_TRACE, &[0, 0, 1, 2]),
     (Whole(DUAL), true, SIX_CYCLES, &[0, 0, 1, 3, 3, 7]),
     (Whole(DUAL), false, SIX_CYCLES, &[0, 0, 1, 3, 6, 10]),
-    // a register and a memory in each of two instances, whose clocks are the other way round in the second
+    // a register and a memory in each of two instances; the second instance has the clocks the other way round
     (
         Whole(DEEP),
         true,

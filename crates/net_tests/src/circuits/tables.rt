@@ -13,7 +13,7 @@ fn networks_begin_later(rt: HostRuntime) {
     check_begins(&rt, rt.alloc());
 }
 
-// This holds. If not, the test fails, and shows what it is about.
+// Fails the test if this doesn't hold, and shows `about`.
 fn check(rt: &impl Abort, holds: bool, about: &str) {
     assert!(rt; holds, "{about}");
 }

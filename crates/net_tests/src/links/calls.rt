@@ -1,4 +1,4 @@
-//! What a link answers, call by call.
+//! The answers of a link, one call after another.
 ghost use Rattle.std.specs.Prelude.{◌≡◌, ℕ, ◌≤◌, List, ◌++◌, length};
 ghost use Rattle.std.specs.VecDeque.{deque_items, deque_len, deque_capacity};
 ghost use Rattle.gg_link.specs.Seats.{stream_of, stream_limit};
@@ -88,7 +88,7 @@ fn are_left(left: &mut VecDeque<u128>, values: &[u128], from: usize, upto: usize
     left.is_empty()
 }
 
-// Whether a link that is made with what is held answers these calls so, and hands back what is left.
+// Whether a link that is made with these values gives these answers, and returns the values that are left.
 fn answers<L: Link, Z: Streams>(
     alloc: Global,
     home: L::Home,

@@ -1,4 +1,4 @@
-//! What a link is made with.
+//! The values that a link is made with.
 ghost use Rattle.std.specs.Prelude.{◌≡◌, ℕ, ◌≤◌, List, ◌++◌, length, IfOk};
 ghost use Rattle.std.specs.VecDeque.{deque_items, deque_len, deque_capacity};
 

@@ -15,7 +15,7 @@ use std::test::Fail;
 use std::thread;
 use std::thread::Threads;
 
-// Puts the values from place `from` on, each again while the link is full.
+// Puts the values starting at place `from`, each again while the link is full.
 fn put_all<L: Link>(link: &L, mut seat: L::PutSeat, values: &[u128], from: usize) -> L::PutSeat
     requires seat { L.puts_into link.now seat }
     requires stream { (L.putting seat).stream ≡ values.now }
@@ -58,7 +58,7 @@ fn take_all<L: Link>(link: &L, mut seat: L::TakeSeat, values: &[u128]) -> (L::Ta
     (seat, in_order)
 }
 
-// Whether a link takes over what is held, carries all values from one thread to another, and is empty then.
+// Whether a link takes the values of the deque, carries all values from one thread to another, and is empty then.
 fn carries<L: Link, Z: Streams, R: Threads + Sync>(
     rt: &R,
     alloc: Global,

@@ -1,4 +1,4 @@
-//! Two workers run side by side, with queues.
+//! Two workers run at the same time, with queues.
 use crate::meeting::Meeting;
 use crate::workers::runs::{Row, is_expected};
 use gg_ruled::Ruled;
@@ -6,7 +6,7 @@ use std::alloc::Global;
 use std::sync::Wait;
 use std::thread::Threads;
 
-// A run of the two units. All of its 42 steps may be left but one, that of the source.
+// A run of the two units. Of its 42 steps at least the source's is done.
 const RUN: Row = (0, 2, 2, 0, 41);
 
 // Two units that feed each other in one cycle.
@@ -17,7 +17,7 @@ on {"units":["a","b"]}
 keeps 11 83
 "#;
 
-// Whether that run with queues, at this gate, leaves what is expected.
+// Whether that run with queues, at this gate, ends as expected.
 fn meets<R: Threads + Wait + Copy + Send + Sync>(rt: R, alloc: Global, gate: &Meeting) -> bool {
     is_expected::<R, Ruled<R>, Meeting>(&rt, rt, alloc, BOTH, RUN, gate)
 }

@@ -1,4 +1,4 @@
-//! A host that may have no thread, and a network with such a host beside all others.
+//! A host that may have no thread, and a network with such a host in addition.
 ghost use Rattle.std.specs.Prelude.{◌≡◌, ℕ, ◌<◌, [], ◌∷◌, ◌++◌, length, map, is_some, slice_set, IfOk};
 ghost use Rattle.std.specs.Option.{option_map_or};
 ghost use Rattle.gg_node.specs.Machine.{machine_at, latch_at, flag_at, missing};
@@ -14,7 +14,7 @@ use gg_net::{Net, Parts, Streams};
 use gg_node::Host;
 use std::alloc::{AllocError, Global};
 
-// Has the threads of a node, or none if no node is in.
+// A host with the threads of a node, or with none if there is no node in it.
 pub(crate) struct OptionalNode<'a> {
     node: Option<Node<'a, Echo>>,
 }
@@ -142,7 +142,7 @@ impl<'a> Host for OptionalNode<'a> {
     }
 }
 
-// These nodes as hosts, and behind them one without a node.
+// These nodes as hosts, and after them one without a node.
 fn optional_nodes_of<'a>(
     alloc: Global,
     nodes: Vec<Node<'a, Echo>>,

@@ -1,5 +1,5 @@
-//! Runs of a network by workers. A case has, beside what cases.rt says, a line `run` for each run from the opening, with the five numbers of a row, and a
-//! line `beside` if a host without threads is beside the others.
+//! Runs of a network by workers. Besides the lines in cases.rt, a case has a line `run` for each run from the opening, with the five numbers of a
+//! row, and a line `beside` if there is also a host without threads.
 ghost use Rattle.std.specs.Prelude.{◌≡◌, []};
 ghost use Rattle.gg_build.specs.inside.Build.{IsToRun, NeedsNone};
 ghost use Rattle.gg_cut_plan.specs.Fault.{IsSmall};
@@ -28,9 +28,8 @@ use std::alloc::Global;
 use std::marker::Brand;
 use std::thread::Threads;
 
-// A run by workers, and what is expected of it: the cycle to which the network is brought before the run, by an order that the workers then
-// go by and that is empty for cycle 0, the workers, the cycle up to
-// which they step its machines, and how many steps are left after it, at least and at most.
+// A run by workers, and its expected result: the cycle that the network is brought to before the run, by an order that the workers then go by and
+// that is empty for cycle 0, the workers, the cycle that they step its machines up to, and how many steps are left after it, at least and at most.
 pub(crate) type Row = (u64, u32, u64, u64, u64);
 
 // The five numbers of a run.
@@ -65,7 +64,7 @@ fn ends<Z: Streams>(net: &mut Net<Node<'_, Echo>, Z>, case: &str, row: Row) -> b
     least <= rest && rest <= most && left(net) == 0 && keeps(net, field(case, "keeps "))
 }
 
-// Whether the last machine keeps these values, one for each cycle from 0 on.
+// Whether the last machine keeps these values, one for each cycle, starting at cycle 0.
 fn keeps_beside<Z: Streams>(net: &Net<OptionalNode<'_>, Z>, values: &str) -> bool {
     net.within_limits();
     let machines = net.machines();
@@ -92,7 +91,7 @@ fn ends_beside<Z: Streams>(net: &mut Net<OptionalNode<'_>, Z>, case: &str, row: 
     least <= rest && rest <= most && left(net) == 0 && keeps_beside(net, field(case, "keeps "))
 }
 
-// Whether a run of such a network leaves what is expected.
+// Whether a run of such a network ends as expected.
 fn goes_beside<R: Threads + Sync, L: Link, Z: Streams, G: Gate + Sync>(
     rt: &R,
     home: L::Home,
@@ -111,7 +110,7 @@ fn goes_beside<R: Threads + Sync, L: Link, Z: Streams, G: Gate + Sync>(
     }
 }
 
-// Whether a run of a network that is before its first cycle leaves what is expected.
+// Whether a run of a network that is before its first cycle ends as expected.
 fn goes<R: Threads + Sync, L: Link, Z: Streams, G: Gate + Sync>(
     rt: &R,
     home: L::Home,
@@ -136,14 +135,13 @@ fn goes<R: Threads + Sync, L: Link, Z: Streams, G: Gate + Sync>(
     }
 }
 
-// What a case says. It is a struct since a function with a `&str` can't have what it computes picked where it is called.
+// The text of a case. It is a struct, because a function with a `&str` can't have what it computes picked by its caller.
 #[derive(Clone, Copy)]
 struct Case<'a> {
     text: &'a str,
 }
 
-// Whether a run of the network of a plan without bridges leaves what is expected. What it computes is picked where this is called, by the
-// design and the request.
+// Whether a run of the network of a plan without bridges ends as expected. The caller picks what it computes, by the design and the request.
 fn is_plan_run<R: Threads + Sync, L: Link, Z: Streams, G: Gate + Sync>(
     rt: &R,
     home: L::Home,
@@ -166,7 +164,7 @@ fn is_plan_run<R: Threads + Sync, L: Link, Z: Streams, G: Gate + Sync>(
     }
 }
 
-// Whether a run of the network of a design and a request without bridges, whose channels have capacity 1, leaves what is expected.
+// Whether a run of the network of a design and a request without bridges ends as expected. Its channels have capacity 1.
 fn is_planned<R: Threads + Sync, L: Link, G: Gate + Sync>(
     rt: &R,
     home: L::Home,
@@ -185,7 +183,7 @@ fn is_planned<R: Threads + Sync, L: Link, G: Gate + Sync>(
     requires fed { IsColumns design.now.circuit inputs.now.rows inputs.now.columns }
     requires alone { request.now.bridges ≡ [] }
 {
-    // for the invariant alone
+    // for the invariant only
     let _ = design.order();
     let _ = design.piece();
     let _ = inputs.rows();
@@ -204,7 +202,7 @@ fn is_planned<R: Threads + Sync, L: Link, G: Gate + Sync>(
     }
 }
 
-// The same, where the request has to have no bridges.
+// Whether a run of the network of a design and a request ends as expected, where the request has to have no bridges.
 fn is_cut<R: Threads + Sync, L: Link, G: Gate + Sync>(
     rt: &R,
     home: L::Home,
@@ -228,7 +226,7 @@ fn is_cut<R: Threads + Sync, L: Link, G: Gate + Sync>(
     is_planned::<R, L, G>(rt, home, alloc, design, request, inputs, case, row, gate)
 }
 
-// Whether a run of the network of a design leaves what is expected on a trace.
+// Whether a run of the network of a design ends as expected on a trace.
 fn is_fed<R: Threads + Sync, L: Link, G: Gate + Sync>(
     rt: &R,
     home: L::Home,
@@ -254,7 +252,7 @@ fn is_fed<R: Threads + Sync, L: Link, G: Gate + Sync>(
     }
 }
 
-// The same of the network of a circuit.
+// Whether a run of the network of a circuit ends as expected on a trace.
 fn is_network<R: Threads + Sync, L: Link, G: Gate + Sync>(
     rt: &R,
     home: L::Home,
@@ -271,7 +269,7 @@ fn is_network<R: Threads + Sync, L: Link, G: Gate + Sync>(
     }
 }
 
-// Whether a run of the network of a case leaves what is expected. False, too, if an allocation fails.
+// Whether a run of the network of a case ends as expected. False, too, if an allocation fails.
 pub(crate) fn is_expected<R: Threads + Sync, L: Link, G: Gate + Sync>(
     rt: &R,
     home: L::Home,

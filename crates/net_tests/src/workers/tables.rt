@@ -1,5 +1,5 @@
-//! Runs with rings, from tables: few and many workers, cycles up to which machines are stepped, channels of capacity 1, direct channels,
-//! pipes, and a host without threads.
+//! Runs with rings, from tables: few and many workers, several last cycles, channels of capacity 1, direct channels, pipes, and a host without
+//! threads.
 use crate::cases::is_known;
 use crate::workers::runs::{is_expected, row_of};
 use gg_io::NoGate;
@@ -144,10 +144,10 @@ run 0 0 3 30 30
 run 0 2 3 0 29
 "#;
 
-// The words with which the lines of a case begin.
+// The first words of a case's lines.
 static KEYS: [&str; 6] = ["circuit", "trace", "on", "keeps", "beside", "run"];
 
-// Checks what each run of a case leaves. Returns how many there are.
+// Checks how each run of a case ends. Returns how many runs there are.
 fn check_case<R: Threads + Sync + Abort>(rt: &R, alloc: Global, case: &str) -> u64 {
     assert!(rt; is_known(case, &KEYS), "{case}");
     let mut runs: u64 = 0;
@@ -162,7 +162,7 @@ fn check_case<R: Threads + Sync + Abort>(rt: &R, alloc: Global, case: &str) -> u
     runs
 }
 
-// Checks what the runs of each case of a text leave.
+// Checks how the runs of each case of a text end.
 fn check_cases<R: Threads + Sync + Abort>(rt: &R, alloc: Global, text: &str) {
     for case in text.split("\n\n") {
         assert!(rt; check_case(rt, alloc, case) > 0, "{case}");

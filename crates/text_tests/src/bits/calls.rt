@@ -10,7 +10,7 @@ use gg_bits::{
 // A kind, a width and a pattern.
 pub(crate) type Typed = (Kind, u32, u128);
 
-// What a call answers: the type and the pattern of its result, or the first thing that is wrong.
+// The answer of a call: the type and the pattern of its result, or the first thing that is wrong.
 pub(crate) type Answer = Result<Typed, Bad>;
 
 // A call and its answer.
@@ -89,7 +89,7 @@ fn of_extend(a: Typed, width: u32) -> Option<Answer> {
     Some(Ok((ty.kind, width, extend(x, ty, width).0)))
 }
 
-// What a call answers. None if an operand doesn't fit its type.
+// The answer of a call. None if an operand doesn't fit its type.
 pub(crate) fn answer(call: &Call) -> Option<Answer> {
     match *call {
         Call::One(op, a) => of_one(op, a),

@@ -9,12 +9,13 @@ use crate::bits::unary_rows::ONE_VALUE;
 use std::fmt::Debug;
 use std::process::Abort;
 
-// This holds. If not, the test fails, and shows what it is about.
+// Fails the test if this doesn't hold, and shows `about`.
 pub(crate) fn check(rt: &impl Abort, holds: bool, about: &impl Debug) {
     assert!(rt; holds, "{about:?}");
 }
 
-// Each row holds. One that fails is shown by its place, what its call answered, and what it should have.
+// Checks that the call of each row has the row's answer. One that hasn't is shown by its place, its answer, and the
+// expected one.
 fn check_rows(rt: &impl Abort, rows: &[Row]) {
     for (place, row) in rows.iter().enumerate() {
         let answered = answer(&row.0);

@@ -1,4 +1,4 @@
-//! The calls that are tested, and the check of what they tell.
+//! The calls that are tested, and the check of their answers.
 ghost use Rattle.std.specs.Prelude.{◌<◌, ◌^◌, length};
 
 use super::fronts::tell_front;
@@ -10,10 +10,10 @@ use gg_read::read_circuit;
 use std::alloc::{AllocError, Global};
 use std::process::Abort;
 
-// A text, and what a call tells of it.
+// A text, and the answer of a call on it, as a text.
 pub(crate) type Row = (Source, &'static str);
 
-// What is called.
+// A call on a text.
 #[derive(Clone, Copy)]
 pub(crate) enum Call {
     // `gg_lex::lex`.
@@ -28,7 +28,7 @@ pub(crate) enum Call {
     Stages,
 }
 
-// Checks what a call tells of each text. A failure names the table and the row, counted from 0.
+// Checks the answer of a call on each text. A failure names the table and the row, counted from 0.
 pub(crate) fn check_rows(rt: &impl Abort, alloc: Global, call: Call, table: &str, rows: &[Row]) {
     for (row, (source, wanted)) in rows.iter().enumerate() {
         let mut found = String::new(alloc);
@@ -40,7 +40,7 @@ pub(crate) fn check_rows(rt: &impl Abort, alloc: Global, call: Call, table: &str
     }
 }
 
-// Adds what a call tells of a text.
+// Adds the answer of a call on a text.
 fn tell(out: &mut String, alloc: Global, call: Call, source: &Source) -> Result<(), AllocError> {
     let mut text = String::new(alloc);
     put(&mut text, source)?;
@@ -60,7 +60,8 @@ fn tell(out: &mut String, alloc: Global, call: Call, source: &Source) -> Result<
     }
 }
 
-// Adds what is read of the bytes, or, if they spell a circuit, what the further calls tell of it.
+// Adds the circuit that is read from the bytes, or the fault of reading. If `further` is true, adds the answers of the
+// further calls instead of the circuit.
 fn tell_read(out: &mut String, alloc: Global, bytes: &[u8], further: bool) -> Result<(), AllocError>
     requires { length bytes.now < 2 ^ 32 }
 {

@@ -1,4 +1,4 @@
-//! Circuits as texts, of which the tests change a line.
+//! Circuits as texts. The tests change a line of them.
 
 // A counter: its sixth line is empty.
 pub(crate) const COUNTER: &str =
@@ -32,7 +32,7 @@ pub(crate) const LATE: &str =
 pub(crate) const TOP: &str =
     "circuit Top :\nmodule Core :\noutput o : UInt<4>\no <= UInt<4>(10)\nmodule Tile :\noutput o : UInt<4>\ninst core of Core\no <= core.o\nmodule Top :\noutput o : UInt<4>\ninst tile of Tile\no <= tile.o\n";
 
-// An instance whose module has a memory with a reader and a writer.
+// An instance of a module that has a memory with a reader and a writer.
 pub(crate) const STORE: &str =
     "circuit Top :\nmodule Store :\ninput clock : Clock\ninput at : UInt<2>\ninput v : UInt<8>\noutput o : UInt<8>\nmem m :\ndata-type => UInt<8>\ndepth => 4\nread-latency => 0\nwrite-latency => 1\nreader => r\nwriter => w\nm.r.clk <= clock\nm.r.addr <= at\nm.r.en <= UInt<1>(\"h1\")\nm.w.clk <= clock\nm.w.addr <= at\nm.w.en <= UInt<1>(\"h1\")\nm.w.mask <= UInt<1>(\"h1\")\nm.w.data <= v\no <= m.r.data\nmodule Top :\ninput clock : Clock\ninput at : UInt<2>\ninput v : UInt<8>\noutput o : UInt<8>\ninst s of Store\ns.clock <= clock\ns.at <= at\ns.v <= v\no <= s.o\n";
 

@@ -9,7 +9,7 @@ use gg_front::front;
 use gg_order::Design;
 use std::alloc::{AllocError, Global};
 
-// Adds what `front` answers, as it is printed.
+// Adds the answer of `front`, as it is printed.
 pub(crate) fn tell_front(out: &mut String, alloc: Global, bytes: &[u8]) -> Result<(), AllocError>
     requires { length bytes.now < 2 ^ 32 }
 {
@@ -204,10 +204,10 @@ pub(crate) static CIRCUITS: [Row; 62] = [
     ),
 ];
 
-// What the last module of a chain declares: a wire.
+// The declarations of the last module of a chain: a wire.
 const WIRE: &str = "wire w : UInt<1>\nw <= UInt<1>(\"h0\")\n";
 
-// The same: a memory of 65,536 words.
+// The declarations of the last module of a chain: a memory of 65,536 words.
 const WORDS: &str =
     "mem m :\ndata-type => UInt<8>\ndepth => 65536\nread-latency => 0\nwrite-latency => 1\nread-under-write => undefined\n";
 

@@ -1,4 +1,4 @@
-//! Texts and what `read_circuit` reads of them, worked by hand from the grammar.
+//! Texts and the circuits that `read_circuit` reads from them, worked by hand from the grammar.
 use super::calls::Row;
 use super::circuits::{COUNTER, SECOND};
 use super::sources::Source::{Bytes, Edited, Repeated, Whole};
@@ -15,8 +15,8 @@ pub(crate) fn put_circuit(out: &mut String, circuit: &Circuit) -> Result<(), All
     Ok(())
 }
 
-// The same of a module. If an earlier module has the same name, the place of that module is added, since the name leads
-// there.
+// Adds the name of a module and its line numbers. If an earlier module has the same name, the place of that module is
+// added, because the name leads there.
 fn put_module(
     out: &mut String,
     circuit: &Circuit,
@@ -51,7 +51,7 @@ fn put_place(
     }
 }
 
-// What a statement is.
+// The word of a statement's kind.
 fn word(kind: &StmtKind) -> &'static str {
     match kind {
         StmtKind::Wire { .. } => "wire",

@@ -5,12 +5,12 @@ use std::alloc::AllocError;
 pub(crate) enum Source {
     // Just this.
     Whole(&'static str),
-    // These texts, each so many times.
+    // Each of these texts, repeated that often.
     Repeated(&'static [(&'static str, usize)]),
     // A circuit with this line, counted from 1 (0: none), changed.
     Edited(&'static str, usize, &'static str),
-    // Modules in a chain: so many levels of instances below the top, so many instances of the next module in each
-    // module, and these lines in the last module.
+    // Modules in a chain: the levels of instances below the top, the number of instances of the next module in each
+    // module, and the lines of the last module.
     Chain(u32, u32, &'static str),
     // No text, but these bytes.
     Bytes(&'static [u8]),
@@ -27,7 +27,7 @@ pub(crate) fn put(out: &mut String, source: &Source) -> Result<(), AllocError> {
     }
 }
 
-// Adds texts, each so many times.
+// Adds texts, each repeated that often.
 fn put_repeated(out: &mut String, texts: &[(&str, usize)]) -> Result<(), AllocError> {
     for (text, times) in texts {
         for _turn in 0..*times {

@@ -1,6 +1,6 @@
-//! Circuits as texts through the calls that `front` is made of, one after another up to the first that refuses. This
-//! shows that `gg_shape::shape` and `gg_types::types` accept a circuit, and name a fault: `front` calls `shaped` and
-//! `typed` in their place, and a body that answers `NoMemory` always meets their contracts.
+//! Circuits as texts through the calls inside `front`, one after another up to the first that refuses. This shows that
+//! `gg_shape::shape` and `gg_types::types` accept a circuit, and name a fault: `front` calls `shaped` and `typed` in
+//! their place, and a body that answers `NoMemory` always meets their contracts.
 ghost use Rattle.gg_flat.specs.WellFormed.{IsWellFormed};
 ghost use Rattle.gg_shape.specs.Judged.{IsShaped};
 
@@ -16,7 +16,7 @@ use gg_types::Typed;
 use gg_types_rules::types;
 use std::alloc::{AllocError, Global};
 
-// Adds what the calls tell of a circuit that was read, from `shape` on.
+// Adds the answers of the calls on a circuit that was read: `shape` and the calls after it.
 pub(crate) fn tell_shape(
     out: &mut String,
     alloc: Global,
@@ -28,7 +28,7 @@ pub(crate) fn tell_shape(
     }
 }
 
-// The same from `types` on.
+// Adds the answers of `types` and the calls after it.
 fn tell_types(out: &mut String, alloc: Global, circuit: &Circuit) -> Result<(), AllocError>
     requires { IsShaped circuit.now }
 {
@@ -38,7 +38,7 @@ fn tell_types(out: &mut String, alloc: Global, circuit: &Circuit) -> Result<(), 
     }
 }
 
-// The same from `flatten` on.
+// Adds the answers of `flatten` and the calls after it.
 fn tell_flat(out: &mut String, alloc: Global, typed: &Typed) -> Result<(), AllocError> {
     match flatten(alloc, typed) {
         Ok((piece, _)) => tell_order(out, alloc, &piece),
@@ -46,7 +46,7 @@ fn tell_flat(out: &mut String, alloc: Global, typed: &Typed) -> Result<(), Alloc
     }
 }
 
-// The same from `order` on: the numbers of signals of the flat circuit and of its order, or the paths of a loop.
+// Adds the answer of `order`: the numbers of signals of the flat circuit and of its order, or the paths of a loop.
 fn tell_order(out: &mut String, alloc: Global, piece: &Piece) -> Result<(), AllocError>
     requires { IsWellFormed piece.now }
 {

@@ -1,4 +1,4 @@
-//! What reading tells of a text for a circuit.
+//! The answer of reading a text for a circuit.
 ghost use Rattle.std.specs.Prelude.{IfSome};
 ghost use Rattle.gg_snap.specs.text.Known.{CanSave};
 
@@ -8,7 +8,7 @@ use gg_snap::{read_snap, snap_text};
 use std::alloc::{AllocError, Global};
 use std::process::Abort;
 
-// A text, and what reading tells of it: `ok`, or the fault as it is printed.
+// A text, and the answer of reading it: `ok`, or the fault as it is printed.
 pub(crate) type Row = (&'static str, &'static str);
 
 // The design of a circuit. `None` if it has a fault or is too long, or if an allocation fails.
@@ -45,7 +45,7 @@ fn tell(out: &mut String, alloc: Global, design: &Design, text: &str) -> Result<
     }
 }
 
-// Adds what reading tells of a text for a circuit.
+// Adds the answer of reading a text for a circuit.
 fn tell_for(out: &mut String, alloc: Global, circuit: &str, text: &str) -> Result<(), AllocError> {
     match design_of(alloc, circuit) {
         Some(design) => tell(out, alloc, &design, text),
@@ -53,7 +53,7 @@ fn tell_for(out: &mut String, alloc: Global, circuit: &str, text: &str) -> Resul
     }
 }
 
-// Checks what reading tells of each text for a circuit. A failure names the circuit and the row, counted from 0.
+// Checks the answer of reading each text for a circuit. A failure names the circuit and the row, counted from 0.
 pub(crate) fn check_rows(rt: &impl Abort, alloc: Global, name: &str, circuit: &str, rows: &[Row]) {
     for (row, (text, wanted)) in rows.iter().enumerate() {
         let mut found = String::new(alloc);

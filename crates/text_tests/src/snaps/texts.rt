@@ -1,4 +1,4 @@
-//! The tables of texts, by circuit, and their check. A circuit's table has a text and what reading tells of it.
+//! The tables of texts, by circuit, and their check. A circuit's table has texts, each with the answer of reading it.
 use super::circuits::{COUNTER, LATE, PROMPT, THREE};
 use super::telling::{Row, check_rows};
 
