@@ -13,7 +13,7 @@ use Rattle.gg_build.proofs.hosts.hosts_of.Goals as goal
 pub loop-host-init : goal.loop-host-init
 loop-host-init g c =
     record {
-      hosts = record { total = ap length c.new-nodes.ensures; each = λ h any lt. absurd (omega (arith, lt)) };
+      hosts = record { total = ap length c.new-nodes.ensures.items; each = λ h any lt. absurd (omega (arith, lt)) };
       own = λ h any lt. absurd (omega (arith, lt));
       left = c.requires.bridges;
       same = λ k from lt. same-start (first_body c.args.machines.now (map (λ list. list.items) c.args.members.now) k) c.args.bridges.now;

@@ -19,8 +19,8 @@ from_state-requires-clause-state g c =
     (subst (IsState alone.piece) (sym (c.in_ok-state.ensures ∙ ap (part_state alone.held alone.memories) c.in_ok-whole.ensures))
     (IsState-part part.piece alone.piece alone.globals alone.held alone.memories alone.clocks cut.is_part own.state c.requires.begin))
 
-pub returns : goal.returns
-returns g c =
+pub returns-clause-host : goal.returns-clause-host
+returns-clause-host g c =
     let part = c.args.part.now in
     let alone = c.in_ok-alone.alone in
     let cut = c.in_ok-alone.ensures in

@@ -30,8 +30,8 @@ new-requires-after_bounds g c κs within =
     let hosts = c.in_ok-hosts.field-0.hosts.items in
     let stations = c.in_ok-hosts.field-0.stations.items in
     let wires = c.in_ok-wires.wires.items in
-    subst (Opens g.Z.Streams.flow (lists_of plan begin columns n hosts stations c.in_ok-hosts.ensures) stations wires) (sym c.rows-end.ensures.count)
-    (opens plan begin columns n hosts stations c.in_ok-hosts.ensures is.start g.Z.Streams.flow is.run is.begins wires
+    subst (Opens g.Z.Streams.flow (lists_of plan begin columns n hosts stations c.in_ok-hosts.ensures.placed) stations wires) (sym c.rows-end.ensures.count)
+    (opens plan begin columns n hosts stations c.in_ok-hosts.ensures.placed is.start g.Z.Streams.flow is.run is.begins wires
     (λ token have. c.in_ok-wires.ensures token (subst (AreTokens plan.channels token) (sym c.deref.ensures.value) have)))
 
 pub returns : goal.returns
@@ -43,6 +43,6 @@ returns g c = λ start run begins.
     let hosts = c.in_ok-hosts.field-0.hosts.items in
     let stations = c.in_ok-hosts.field-0.stations.items in
     let wires = c.in_ok-wires.wires.items in
-    opens-there plan begin columns n hosts stations c.in_ok-hosts.ensures start g.Z.Streams.flow run begins wires
+    opens-there plan begin columns n hosts stations c.in_ok-hosts.ensures.placed start g.Z.Streams.flow run begins wires
     (λ token have. c.in_ok-wires.ensures token (subst (AreTokens plan.channels token) (sym c.deref.ensures.value) have)) c.in_ok-net.net
-    (subst (λ k. c.in_ok-net.net ≡ opening_net (machines_by (lists_of plan begin columns n hosts stations c.in_ok-hosts.ensures) stations) wires k) c.rows-end.ensures.count c.in_ok-net.ensures)
+    (subst (λ k. c.in_ok-net.net ≡ opening_net (machines_by (lists_of plan begin columns n hosts stations c.in_ok-hosts.ensures.placed) stations) wires k) c.rows-end.ensures.count c.in_ok-net.ensures)
