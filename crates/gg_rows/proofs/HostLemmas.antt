@@ -49,4 +49,4 @@ host-tells (node.Shared units) machine cycle value has tray other = told-shared 
 host-tells (node.Memory own) machine cycle value has tray other = told-alone own machine cycle value has tray other
 host-tells (node.Source own) machine cycle value has tray other = told-alone own machine cycle value has tray other
 host-tells (node.Tray own) machine cycle value has tray other = told-alone own machine cycle value has tray other
-host-tells (node.Bridge own) machine cycle value has tray other = told-alone own machine cycle value has tray other
+host-tells (node.Bridge own) machine cycle value has tray other = told-alone own.machine machine cycle value has tray other
