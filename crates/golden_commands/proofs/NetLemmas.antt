@@ -74,7 +74,7 @@ told-so naming events ending step step' cause cause' e f =
 pub replay-zeros : {fed : Fed} {flow : Flow} (replay : IsToReplay fed flow) → FromZeros replay.run
 replay-zeros replay = ap₂ plan_start (sym replay.of_design) (sym replay.of_request)
 
-pub replay-run : {fed : Fed} {flow : Flow} → IsToReplay fed flow → IsToRun fed.case.cut.plan fed.trace.columns fed.trace.rows flow
+abbrev pub replay-run : {fed : Fed} {flow : Flow} → IsToReplay fed flow → IsToRun fed.case.cut.plan fed.trace.columns fed.trace.rows flow
 replay-run {fed = fed} replay = record { start = fed_start fed; run = replay.run; zeros = replay-zeros replay }
 
 module _ (fed : Fed) (flow : Flow) (replay : IsToReplay fed flow) (net : Network) (opens : IsOpeningFrom fed.case.cut.plan (fed_start fed) (run_token replay.run) fed.trace.columns fed.trace.rows net) (kept : Kept flow net) (events : List (Option Event)) (new : Network) where

@@ -1,4 +1,4 @@
-use Rattle.std.proofs.Common.{subst}
+use Rattle.std.proofs.Common.{refl, subst}
 use Rattle.gg_cut_reference.specs.whole.Whole.{plan_circuit}
 use Rattle.gg_rows.specs.inside.Printed.{out_columns}
 use Rattle.std.proofs.lemmas.Result.{IfOk-weaker}
