@@ -18,9 +18,8 @@ use Rattle.gg_flat.specs.declared.memory.Latency.{Latency}
 use Rattle.gg_flat.specs.Memory.{address_width}
 use Rattle.gg_types.specs.Memories.{Bank, bank_of, type_shape}
 
--- What gives a signal its value, as its module says: whatever holds the module, for an input port; a connection; the
--- expression of a node or of a stop's condition; a register's state, with its clock and its reset; or what the reader at
--- this place of a memory answers.
+-- The source of a signal's value in its module: whatever holds the module, for an input port; a connection; the expression of a node or of
+-- a stop's condition; a register's state, with its clock and its reset; or what the reader at this place of a memory answers.
 pub data Cause : Type 0 where
   FromOutside : Cause
   Connected : Cause
@@ -28,13 +27,13 @@ pub data Cause : Type 0 where
   Kept : Term → Option Reset → Cause
   Answered : List ℕ → List ℕ → ℕ → Latency → Cause
 
--- a signal of a module: its name as it is written there, its shape, and what gives it its value
+-- a signal of a module: its name as it is written there, its shape, and the source of its value
 pub record Own : Type 0 where
   pub name : List ℕ
   pub shape : Shape
   pub cause : Cause
 
--- a signal of this name, with what gives it its value, and with this shape
+-- a signal of this name, with this cause and this shape
 abbrev pub own : List ℕ → Cause → Shape → Own
 own name cause shape = record { name = name; shape = shape; cause = cause }
 
@@ -46,7 +45,7 @@ dotted a b = a ++ 46 ∷ b
 abbrev pub field_name : List ℕ → List ℕ → List ℕ → List ℕ
 field_name memory port field = dotted memory (dotted port field)
 
--- what gives a port its value: the outside for an input; for an output its connection
+-- the source of a port's value: the outside for an input; for an output its connection
 abbrev pub cause_of_port : Direction → Cause
 cause_of_port Input = FromOutside
 cause_of_port Output = Connected

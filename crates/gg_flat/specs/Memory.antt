@@ -1,8 +1,7 @@
 -- Memories: the width of their addresses, and what their words and read registers become in a tick.
--- Source: FIRRTL Specification, "Memories" (ports, latencies, read under write). The rest is this program's profile.
--- Words and read registers start at 0. A read past the depth, or by a reader that isn't enabled, gives 0. A write past
--- the depth is dropped. If two writers write the same word the later in the file wins. An undefined read gives the old
--- word.
+-- Source: FIRRTL Specification, "Memories" (ports, latencies, read under write). The rest is this program's profile. Words and read
+-- registers start at 0. A read past the depth, or by a reader that isn't enabled, returns 0. A write past the depth is dropped. If two
+-- writers write the same word the later in the file wins. An undefined read returns the old word.
 use Rattle.std.specs.Prelude.{◌≡◌, ℕ, zero, suc, ◌^◌, List, [], ◌∷◌, length, replicate, slice_index_or, Bool, ◌==◌, ◌&&◌, if◌then◌else◌, nat_le, ◌<◌}
 use Rattle.gg_bits.specs.Shape.{Shape, shape, Fits}
 use Rattle.gg_flat.specs.declared.memory.UnderWrite.{UnderWrite}

@@ -22,7 +22,7 @@ pub enum ReadFault {
     NotText,
     /// This line, counted from 1, is not valid at its position.
     Syntax { line: u64 },
-    /// The same, and `word` is the first word or symbol of the line that is left out of the language.
+    /// This line is not valid at its position, and `word` is its first word or symbol that is left out of the language.
     Outside { line: u64, word: Name },
     /// At some token of this line the `(` from its beginning up to the token outnumber the `)` by more than 256. They
     /// may be fewer before: a `)` and then 257 `(` are not too deep.

@@ -45,7 +45,7 @@ fn read_lines(alloc: Global, ports: &[Port], bytes: &[u8]) -> Result<Trace, Trac
     Ok(Trace::of(rows, ports.len(), cells))
 }
 
-/// Reads an input trace: the columns that its text gives, one for each port, or its first fault.
+/// Reads an input trace: the columns of its text, one for each port, or its first fault.
 ///
 /// The header is `cycle` and the names of all ports, each once, in any order. Row r is r in decimal, followed by a
 /// value for each port in hexadecimal. The first fault is the header's fault, if it has one, otherwise the first fault

@@ -59,7 +59,7 @@ fn judged(alloc: Global, text: &str, least: u32, most: u32) -> Result<u32, WordF
     }
 }
 
-// The number that an option gives, if it is in its range, or the option's default.
+// The number of an option, if it is in its range, or the option's default.
 fn number_of(
     alloc: Global,
     matches: &ArgMatches<'_>,
@@ -76,7 +76,7 @@ fn number_of(
     }
 }
 
-// The number that a word gives, if it is in its range.
+// The number of a word, if it is in its range.
 fn number_at(
     alloc: Global,
     matches: &ArgMatches<'_>,

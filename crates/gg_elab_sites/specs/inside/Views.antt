@@ -27,7 +27,7 @@ use Rattle.gg_elab_sites.specs.Meaning.{Signals, Bindings}
 
 -- ---- signals
 
--- what gives a signal its value, as it is kept
+-- the source of a signal's value, as it is kept
 abbrev pub cause_of : Origin → Cause
 cause_of origin.FromOutside = FromOutside
 cause_of origin.Connected = Connected
@@ -103,7 +103,7 @@ abbrev pub source_at : List Source → Option ℕ → Option Connection
 source_at sources None = None
 source_at sources (Some place) = option_map connection (slice_get sources place)
 
--- The table gives what each sink is connected to by these statements.
+-- The table has what each sink is connected to by these statements.
 abbrev pub TellsConnections : List Stmt → List (List ℕ) → List Source → Type 0
 TellsConnections statements names sources = (name : List ℕ) → source_at sources (place_of name names) ≡ connection_in statements name
 

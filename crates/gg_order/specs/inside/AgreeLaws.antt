@@ -1,4 +1,4 @@
--- What a driver gives, and what a register, a memory and an access leave, depend only on the signals that they name.
+-- The value of a driver, and what a register, a memory and an access leave, depend only on the signals that they name.
 -- Source: FIRRTL Specification, "Connects", "Registers", "Memories".
 use Rattle.std.specs.Prelude.{◌≡◌, ℕ, List, Bool}
 use Rattle.gg_bits.specs.Shape.{Shape}
