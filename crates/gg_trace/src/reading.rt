@@ -57,6 +57,16 @@ fn read_lines(alloc: Global, ports: &[Port], bytes: &[u8]) -> Result<Trace, Trac
 /// # Errors
 ///
 /// Returns the first fault of the text, or `NoMemory` if an allocation fails.
+///
+/// # Examples
+///
+/// ```rust
+/// // `ports` are `x` of 8 bits and `y` of 4 bits.
+/// let trace = read_trace(alloc, &ports, b"cycle y x\n0 f 0a\n1 0 ff\n")?;
+/// // `trace.rows()` is 2. In port order `trace.row(0)` is `[10, 15]`, and `trace.row(1)` is `[255, 0]`.
+/// ```
+///
+/// With `10` in place of `f` the result is `TooWide` with row 0 and field 1.
 pub fn read_trace(alloc: Global, ports: &Ports, bytes: &[u8]) -> Result<Trace, TraceFault>
     requires { HasDistinctNames ports.now }
     // The trace has the columns of the text, and each value fits its port.
