@@ -19,11 +19,11 @@ pub record Scope : Type 0 where
   pub path : List ℕ
   pub number : ℕ
 
--- what is written in the module of a site
+-- the scope of the module of a site
 abbrev pub scope_at : Site → Scope
 scope_at site = record { path = site.path; number = site.number }
 
--- what is written in the module that holds an instance
+-- the scope of the module that holds an instance
 abbrev pub scope_around : Outer → Scope
 scope_around outer = record { path = outer.path; number = outer.number }
 

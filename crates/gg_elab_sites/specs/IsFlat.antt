@@ -107,7 +107,7 @@ count_before p all s = count_by p (take s (map (λ x. x.drive) all))
 
 -- ---- drivers
 
--- what a reader of this latency answers
+-- the driver of a reader's data, by its latency
 abbrev pub answer : Latency → ℕ → ℕ → ℕ → ℕ → Driver
 answer Zero memory reader addr en = MemoryWord memory reader addr en
 answer (One under) memory reader addr en = ReadRegister memory reader

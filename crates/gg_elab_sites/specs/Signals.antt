@@ -81,8 +81,8 @@ abbrev pub memory_signals : List ℕ → Option Bank → List Own
 memory_signals memory None = []
 memory_signals memory (Some bank) = readers_signals memory bank 0 bank.readers ++ flat_map (writer_signals memory bank) bank.writers
 
--- what the type checks say of the names of the module at a place: the shape of what a reference names, if that is a
--- value and not a Clock
+-- the types of names in the module at a place, from the type checks: the shape of what a reference names, if that is a value and not a
+-- Clock
 abbrev pub Types : Type 0
 Types = ℕ → Reference → Option Shape
 
@@ -101,7 +101,7 @@ own_of_kind types k (says.Report word arguments label) = []
 
 -- ---- stops
 
--- what a `stop` says: its clock and its condition
+-- the clock and the condition of a `stop`
 pub record Asked : Type 0 where
   pub clock : Term
   pub condition : Term
@@ -115,7 +115,7 @@ pub record OwnStop : Type 0 where
 abbrev pub stop_name : ℕ → List ℕ
 stop_name k = codes "stop:" ++ decimal k
 
--- what a stop says; none for any other statement
+-- the clock and the condition of a stop; none for any other statement
 abbrev pub stop_of_kind : StmtKind → Option Asked
 stop_of_kind (says.Wire name ty) = None
 stop_of_kind (says.Node name value) = None
@@ -143,7 +143,7 @@ stop_signal stop = own stop.name (Expressed stop.asked.condition) (uint 1)
 
 -- ---- all of them
 
--- what statements declare, in the order of the file, and then their stops
+-- the signals that statements declare, in the order of the file, and then their stops
 abbrev pub statement_signals : Types → ℕ → List Stmt → List Own
 statement_signals types k statements = flat_map (λ (s : Stmt). own_of_kind types k s.kind) statements ++ map stop_signal (own_stops statements)
 

@@ -22,7 +22,7 @@ value_at values i = slice_index_or values i 0
 abbrev pub shapes_of : List Node → List Shape
 shapes_of nodes = map (λ node. shape node.ty) nodes
 
--- what the node at a place does; past the end it refers to signal 0
+-- the operation of the node at a place; past the end a reference to signal 0
 abbrev pub op_at : List Node → ℕ → Op
 op_at nodes i = slice_index_or (map (λ node. node.op) nodes) i (Ref 0)
 

@@ -100,7 +100,7 @@ pub struct Register {
     pub ty: Ty,
     /// Its reset, if it has one.
     pub reset: Option<Reset>,
-    /// What is connected to it, if anything is.
+    /// Its connection, if it has one.
     pub next: Option<Line>,
     /// The clock that it follows, by its place among the piece's clocks; none: every tick.
     pub clock: Option<u32>,

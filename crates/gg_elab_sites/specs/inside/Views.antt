@@ -58,12 +58,12 @@ own_stop_of stop = record { name = stop.name; asked = record { clock = stop.cloc
 abbrev pub held_of : Instance → count.Held
 held_of instance = record { name = instance.name.now; number = instance.number }
 
--- what holds an instance, as it is kept; nothing for the top
+-- the site that holds an instance, as it is kept; none for the top
 abbrev pub outer_of : Option Around → Option count.Outer
 outer_of None = None
 outer_of (Some around) = Some (record { path = around.path; number = around.number; name = around.name.now })
 
--- a step from an instance to what holds it, as it is kept
+-- a step from an instance to the site that holds it, as it is kept
 abbrev pub step_of : kept_step.Step → count.Step
 step_of step = record { number = step.number; name = step.name.now }
 
@@ -71,7 +71,7 @@ step_of step = record { number = step.number; name = step.name.now }
 abbrev pub site_of : Place → count.Site
 site_of place = record { path = place.path; number = place.number; depth = place.depth; outer = outer_of place.outer; steps = map step_of place.steps.items }
 
--- what is needed of a site for the instances that it holds
+-- the data of a site for the instances that it holds
 pub record IsAbove (place : Place) (above : Above) : Type 0 where
   pub path : above.path ≡ place.path
   pub number : above.number ≡ place.number

@@ -6,7 +6,7 @@ use Rattle.gg_flat.specs.Line.{value_at}
 use Rattle.gg_flat.specs.Circuit.{FlatCircuit}
 use Rattle.gg_flat.specs.Reads.{Reaches}
 
--- What a signal needs: the places of exactly the in-signals that it reaches, ascending.
+-- The needs of a signal: the places of exactly the in-signals that it reaches, ascending.
 pub record AreNeeds (circuit : FlatCircuit) (out : ℕ) (needs : List ℕ) : Type 0 where
   pub ascending : AllPairs (λ a b. a < b) needs
   pub exact : (place : ℕ) → Contains needs place ↔ ((place < length circuit.ins) × Reaches circuit out (value_at circuit.ins place))
