@@ -43,7 +43,7 @@ pub record IsLine (Named : ℕ → Shape → Type 0) (nodes : List Node) : Type 
   pub some : 0 < length nodes
   pub typed : (k : ℕ) → k < length nodes → HasShape Named (shapes_of nodes) k (shape_at (shapes_of nodes) k) (op_at nodes k)
 
--- signal s is among these shapes, and has the shape `to`
+-- signal s has a shape in this list, and it is `to`
 abbrev pub HasType : List Shape → ℕ → Shape → Type 0
 HasType signals s to = (s < length signals) × (shape_at signals s ≡ to)
 
