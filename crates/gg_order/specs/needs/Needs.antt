@@ -1,4 +1,4 @@
--- The inputs that an out-signal needs: its value in a cycle depends on them.
+-- The inputs that an out-signal needs: its value in a cycle depends only on them.
 -- Source: FIRRTL Specification, "Combinational Loops" (dependency without a register), and "Memories" for reads of latency 0; MEMOCODE 2009
 -- for an output that needs only the inputs that it depends on.
 use Rattle.std.specs.Prelude.{◌≡◌, ℕ, ◌<◌, ◌↔◌, List, [], length, slice_index_or, Contains, AllPairs}
