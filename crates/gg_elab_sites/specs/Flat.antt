@@ -98,7 +98,7 @@ flat_memory modules site own =
 abbrev pub memories_at : List ModuleTree → Site → List FlatMemory
 memories_at modules site = map (flat_memory modules site) (own_banks (module_at modules site.number).statements)
 
--- the memories of all sites: a site's before its sites below, wherever its module declares them
+-- the memories of all sites, a site's before the memories of the sites below it, wherever its module declares them
 abbrev pub flat_memories : List ModuleTree → List Site → List FlatMemory
 flat_memories modules all = flat_map (memories_at modules) all
 
@@ -108,6 +108,6 @@ flat_memories modules all = flat_map (memories_at modules) all
 abbrev pub stop_paths_at : List ModuleTree → Site → List (List ℕ)
 stop_paths_at modules site = map (λ stop. joined site.path stop.name) (own_stops (module_at modules site.number).statements)
 
--- the paths of the stops of all sites: a site's before its sites below
+-- the paths of the stops of all sites, a site's before the stops of the sites below it
 abbrev pub stop_paths : List ModuleTree → List Site → List (List ℕ)
 stop_paths modules all = flat_map (stop_paths_at modules) all
