@@ -1,4 +1,4 @@
--- What one line of a circuit's text says: one constructor for each form of a line (FIRRTL Specification, "Grammar").
+-- The meaning of one line of a circuit's text: one constructor for each form of a line (FIRRTL Specification, "Grammar").
 use Rattle.std.specs.Prelude.{ℕ, List, Option}
 use Rattle.gg_ast.specs.declared.expression.Reference.{Reference}
 use Rattle.gg_ast.specs.declared.module.Direction.{Direction}

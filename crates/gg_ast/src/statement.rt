@@ -36,7 +36,7 @@ impl Stmt {
     }
 }
 
-/// What a statement says.
+/// The kind of a statement, with its parts.
 #[derive(Drop)]
 pub enum StmtKind {
     /// `wire NAME : TYPE`.
@@ -129,7 +129,7 @@ impl Drop for Field {
     }
 }
 
-/// What a field of a memory says.
+/// The key and the value of a memory's field.
 #[derive(Drop)]
 pub enum MemoryField {
     /// `data-type => TYPE`.

@@ -80,7 +80,7 @@ pub enum Keyword {
     Regreset,
 }
 
-/// The operation that a word names.
+/// The operation that a word names. None if it names no operation.
 pub fn find_operation(word: &str) -> Option<Operation>
     ensures { result ≡ operation_of word.now }
 {

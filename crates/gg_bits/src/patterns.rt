@@ -19,7 +19,7 @@ pub(crate) fn ones(width: u32) -> u128
     }
 }
 
-// The low `width` bits of `x`. From the pattern of a number in 128 bits this gives its pattern in `width` bits.
+// The low `width` bits of `x`. If `x` is the pattern of a number in 128 bits, this is its pattern in `width` bits.
 pub(crate) fn fit(x: u128, width: u32) -> u128
     requires positive { 1 ≤ width }
     requires bounded { width ≤ 128 }

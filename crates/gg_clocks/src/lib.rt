@@ -1,4 +1,4 @@
-//! Rational clocks: the base ticks that have an edge of a clock.
+//! Rational clocks: the base ticks where a clock has an edge.
 //!
 //! A ratio says how often: in `m` of `d` base ticks, where `1 <= m <= d <= 65535`. The clock has an edge at tick `b`
 //! exactly where the whole part of `(b + 1) * m / d` exceeds the whole part of `b * m / d` (`edge` in `specs/Clock` of

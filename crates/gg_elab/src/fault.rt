@@ -38,7 +38,7 @@ impl fmt::Display for ElabFault {
 
 impl Error for ElabFault {}
 
-/// What was counted, as faults name it.
+/// The name of a measure in faults.
 pub fn limit_of(measure: Measure) -> Limit
     ensures { result ≡ limit_of measure }
 {

@@ -54,7 +54,7 @@ fn cut(line: Line, taken: bool, sink: Ty) -> Result<Line, AllocError>
     Ok(line)
 }
 
-// The line that gives a sink of this type the value of an expression.
+// The line of a sink of this type that gets an expression.
 pub(crate) fn value_line(alloc: Global, scope: &Scope, e: &Expr, ty: Ty) -> Result<Line, AllocError>
     ensures stands { IfOk result (IsLineOf (context_of scope.now) (shape ty) e.now) }
     ensures fits { IfOk result (IsSource (HasType (context_of scope.now).bindings.signals.shapes) (shape ty)) }
@@ -64,7 +64,7 @@ pub(crate) fn value_line(alloc: Global, scope: &Scope, e: &Expr, ty: Ty) -> Resu
     cut(line, takes(ty, stand.ty), ty)
 }
 
-// The line that gives a sink of this type what it is connected to.
+// The line of a sink of this type, by what it is connected to.
 pub(crate) fn source_line(
     alloc: Global,
     scope: &Scope,
@@ -93,7 +93,7 @@ fn zero_line(alloc: Global, scope: &Scope, ty: Ty) -> Result<Line, AllocError>
     Ok(line)
 }
 
-// The line that gives a sink of this type the value of a connection.
+// The line of a sink of this type with this connection.
 fn given_line(alloc: Global, scope: &Scope, source: Source, ty: Ty) -> Result<Line, AllocError>
     ensures stands { IfOk result (IsLineFor (context_of scope.now) (shape ty) (Some (connection source.entry))) }
     ensures fits { IfOk result (IsSource (HasType (context_of scope.now).bindings.signals.shapes) (shape ty)) }

@@ -43,7 +43,7 @@ clocks_given around name m = map (λ port. clock_connected around (connection_in
 abbrev pub clocks_of_top : ModuleTree → List (Option ℕ)
 clocks_of_top m = clocks_from 0 (length (clock_inputs m.ports))
 
--- for each Clock input of the module at a place, the Clock input of what holds it that it follows, where these steps lead to the top
+-- for each Clock input of the module at a place, the Clock input that it follows of the module one step up, where these steps lead to the top
 abbrev pub clocks_around : List ModuleTree → ℕ → List Step → List (Option ℕ)
 clocks_around modules number [] = clocks_of_top (module_at modules number)
 clocks_around modules number (step ∷ steps) = clocks_given (module_at modules step.number) step.name (module_at modules number)

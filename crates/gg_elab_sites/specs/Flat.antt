@@ -19,37 +19,36 @@ pub record Scope : Type 0 where
   pub path : List ℕ
   pub number : ℕ
 
--- what is written in the module of a site
+-- the scope of the module of a site
 abbrev pub scope_at : Site → Scope
 scope_at site = record { path = site.path; number = site.number }
 
--- what is written in the module that holds an instance
+-- the scope of the module that holds an instance
 abbrev pub scope_around : Outer → Scope
 scope_around outer = record { path = outer.path; number = outer.number }
 
--- What gives a signal of the circuit its value: the outside; its connection, with where that is written; the state of
--- a register; or a reader of a memory. Of a register it has the reset, the connection, the Clock input of its site that
--- it follows, and the clock of the circuit. Of a reader it has the memory's path, the reader's place, and the paths of
--- its address and its enable.
+-- The source of a signal's value in the circuit: the outside; its connection, with where that is written; the state of a register; or a
+-- reader of a memory. Of a register it has the reset, the connection, the Clock input of its site that it follows, and the clock of the
+-- circuit. Of a reader it has the memory's path, the reader's place, and the paths of its address and its enable.
 pub data Drive : Type 0 where
   Outside : Drive
   Gets : Scope → Option Connection → Drive
   Holds : Scope → Option Reset → Option Connection → Option ℕ → Option ℕ → Drive
   Answers : List ℕ → ℕ → Latency → List ℕ → List ℕ → Drive
 
--- A signal of the circuit: its path from the top, its shape, and what gives it its value.
+-- A signal of the circuit: its path from the top, its shape, and the source of its value.
 pub record FlatSignal : Type 0 where
   pub path : List ℕ
   pub shape : Shape
   pub drive : Drive
 
--- what an input port of this name gets, in the top and in an instance
+-- the drive of an input port of this name, in the top and in an instance
 abbrev pub input_drive : List ModuleTree → Option Outer → List ℕ → Drive
 input_drive modules None name = Outside
 input_drive modules (Some outer) name =
     Gets (scope_around outer) (connection_in (module_at modules outer.number).statements (dotted outer.name name))
 
--- what gives the signal of this name at a site its value, by its cause in the module
+-- the drive of the signal of this name at a site, by its cause in the module
 abbrev pub drive_of : List ModuleTree → Site → List ℕ → Cause → Drive
 drive_of modules site name FromOutside = input_drive modules site.outer name
 drive_of modules site name Connected = Gets (scope_at site) (connection_in (module_at modules site.number).statements name)
@@ -99,7 +98,7 @@ flat_memory modules site own =
 abbrev pub memories_at : List ModuleTree → Site → List FlatMemory
 memories_at modules site = map (flat_memory modules site) (own_banks (module_at modules site.number).statements)
 
--- the memories of all sites: a site's before its sites below, wherever its module declares them
+-- the memories of all sites, a site's before the memories of the sites below it, wherever its module declares them
 abbrev pub flat_memories : List ModuleTree → List Site → List FlatMemory
 flat_memories modules all = flat_map (memories_at modules) all
 
@@ -109,6 +108,6 @@ flat_memories modules all = flat_map (memories_at modules) all
 abbrev pub stop_paths_at : List ModuleTree → Site → List (List ℕ)
 stop_paths_at modules site = map (λ stop. joined site.path stop.name) (own_stops (module_at modules site.number).statements)
 
--- the paths of the stops of all sites: a site's before its sites below
+-- the paths of the stops of all sites, a site's before the stops of the sites below it
 abbrev pub stop_paths : List ModuleTree → List Site → List (List ℕ)
 stop_paths modules all = flat_map (stop_paths_at modules) all

@@ -36,14 +36,13 @@ use Rattle.gg_elab_sites.specs.Meaning.{Signals, Bindings, Context, in_scope, Te
 
 -- ---- lines
 
--- A line gives a sink of this shape what it is connected to, and names exactly the signals that this connection
--- names.
+-- A line has the value that a sink of this shape gets from its connection, and names exactly the signals that this connection names.
 pub record IsLineFor (context : Context) (sink : Shape) (c : Option Connection) (line : List Node) : Type 0 where
   pub value : (values : List ℕ) → line_connected values sink line ≡ connected_value context values sink c
   pub names : (s : ℕ) → Names line s ↔ ConnectionNames context s c
   pub nodes : laid line ≡ connected_line context sink c
 
--- A line gives a sink of this shape the value of an expression.
+-- A line has the value that a sink of this shape gets from an expression.
 pub record IsLineOf (context : Context) (sink : Shape) (e : Term) (line : List Node) : Type 0 where
   -- the line's value is what the sink gets, whatever values the signals have
   pub value : (values : List ℕ) → line_connected values sink line ≡ taken_value context values sink e
@@ -108,12 +107,12 @@ count_before p all s = count_by p (take s (map (λ x. x.drive) all))
 
 -- ---- drivers
 
--- what a reader of this latency answers
+-- the driver of a reader's data, by its latency
 abbrev pub answer : Latency → ℕ → ℕ → ℕ → ℕ → Driver
 answer Zero memory reader addr en = MemoryWord memory reader addr en
 answer (One under) memory reader addr en = ReadRegister memory reader
 
--- The signal has a line that gives it its connection.
+-- The signal has a line for its connection.
 pub record IsComputed (context : Context) (sink : Shape) (c : Option Connection) (driver : Driver) : Type 0 where
   pub line : List Node
   pub computed : driver ≡ Computed line

@@ -1,4 +1,4 @@
--- What the type checks say of the names of a circuit.
+-- The types of a circuit's names, from the type checks.
 -- Source: FIRRTL Specification, "Ground Types", "Expressions" (references).
 use Rattle.std.specs.Prelude.{Option, Some, None}
 use Rattle.gg_bits.specs.Shape.{Shape, of_kind}

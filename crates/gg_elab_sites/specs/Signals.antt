@@ -18,9 +18,8 @@ use Rattle.gg_flat.specs.declared.memory.Latency.{Latency}
 use Rattle.gg_flat.specs.Memory.{address_width}
 use Rattle.gg_types.specs.Memories.{Bank, bank_of, type_shape}
 
--- What gives a signal its value, as its module says: whatever holds the module, for an input port; a connection; the
--- expression of a node or of a stop's condition; a register's state, with its clock and its reset; or what the reader at
--- this place of a memory answers.
+-- The source of a signal's value in its module: whatever holds the module, for an input port; a connection; the expression of a node or of
+-- a stop's condition; a register's state, with its clock and its reset; or what the reader at this place of a memory answers.
 pub data Cause : Type 0 where
   FromOutside : Cause
   Connected : Cause
@@ -28,13 +27,13 @@ pub data Cause : Type 0 where
   Kept : Term → Option Reset → Cause
   Answered : List ℕ → List ℕ → ℕ → Latency → Cause
 
--- a signal of a module: its name as it is written there, its shape, and what gives it its value
+-- a signal of a module: its name as it is written there, its shape, and the source of its value
 pub record Own : Type 0 where
   pub name : List ℕ
   pub shape : Shape
   pub cause : Cause
 
--- a signal of this name, with what gives it its value, and with this shape
+-- a signal of this name, with this cause and this shape
 abbrev pub own : List ℕ → Cause → Shape → Own
 own name cause shape = record { name = name; shape = shape; cause = cause }
 
@@ -46,7 +45,7 @@ dotted a b = a ++ 46 ∷ b
 abbrev pub field_name : List ℕ → List ℕ → List ℕ → List ℕ
 field_name memory port field = dotted memory (dotted port field)
 
--- what gives a port its value: the outside for an input; for an output its connection
+-- the source of a port's value: the outside for an input; for an output its connection
 abbrev pub cause_of_port : Direction → Cause
 cause_of_port Input = FromOutside
 cause_of_port Output = Connected
@@ -82,8 +81,8 @@ abbrev pub memory_signals : List ℕ → Option Bank → List Own
 memory_signals memory None = []
 memory_signals memory (Some bank) = readers_signals memory bank 0 bank.readers ++ flat_map (writer_signals memory bank) bank.writers
 
--- what the type checks say of the names of the module at a place: the shape of what a reference names, if that is a
--- value and not a Clock
+-- the types of names in the module at a place, from the type checks: the shape of what a reference names, if that is a value and not a
+-- Clock
 abbrev pub Types : Type 0
 Types = ℕ → Reference → Option Shape
 
@@ -102,7 +101,7 @@ own_of_kind types k (says.Report word arguments label) = []
 
 -- ---- stops
 
--- what a `stop` says: its clock and its condition
+-- the clock and the condition of a `stop`
 pub record Asked : Type 0 where
   pub clock : Term
   pub condition : Term
@@ -116,7 +115,7 @@ pub record OwnStop : Type 0 where
 abbrev pub stop_name : ℕ → List ℕ
 stop_name k = codes "stop:" ++ decimal k
 
--- what a stop says; none for any other statement
+-- the clock and the condition of a stop; none for any other statement
 abbrev pub stop_of_kind : StmtKind → Option Asked
 stop_of_kind (says.Wire name ty) = None
 stop_of_kind (says.Node name value) = None
@@ -144,7 +143,7 @@ stop_signal stop = own stop.name (Expressed stop.asked.condition) (uint 1)
 
 -- ---- all of them
 
--- what statements declare, in the order of the file, and then their stops
+-- the signals that statements declare, in the order of the file, and then their stops
 abbrev pub statement_signals : Types → ℕ → List Stmt → List Own
 statement_signals types k statements = flat_map (λ (s : Stmt). own_of_kind types k s.kind) statements ++ map stop_signal (own_stops statements)
 

@@ -45,13 +45,13 @@ held_at modules k = held_by modules (module_at modules k).statements
 
 -- ---- sites
 
--- what holds an instance: a site's path, its module's place, and the name that the instance has there
+-- the site that holds an instance: its path, its module's place, and the name of the instance there
 pub record Outer : Type 0 where
   pub path : List ℕ
   pub number : ℕ
   pub name : List ℕ
 
--- a step from an instance to what holds it: the place of the module there, and the name that the instance has in it
+-- a step from an instance to the site that holds it: the place of the module there, and the name of the instance in it
 pub record Step : Type 0 where
   pub number : ℕ
   pub name : List ℕ
@@ -63,7 +63,7 @@ pub record Site : Type 0 where
   pub path : List ℕ
   pub number : ℕ
   pub depth : ℕ
-  -- what holds the instance; nothing for the top
+  -- the site that holds the instance; none for the top
   pub outer : Option Outer
   pub steps : List Step
 

@@ -22,7 +22,7 @@ pub enum Source<'a> {
     Zero,
 }
 
-/// The connected sinks by their written names, each with what its first connection gives it.
+/// The connected sinks by their written names, each with its first connection.
 pub struct Sinks<'a> {
     pub names: Paths,
     pub sources: Vec<Source<'a>>,

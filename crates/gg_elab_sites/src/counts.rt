@@ -11,7 +11,7 @@ use crate::pass::{Gathering, gather, gather_over};
 use gg_ast::{Circuit, Field, MemoryField, Module, Stmt, StmtKind};
 use std::alloc::{AllocError, Global};
 
-/// What is counted, and has a limit.
+/// A measure of a circuit that has a limit.
 #[derive(Clone, Copy, Debug, PartialEq, Eq)]
 pub enum Measure {
     /// The depth of the deepest instance: at most 32.
@@ -29,7 +29,7 @@ pub enum Measure {
 /// A count above its limit.
 #[derive(Clone, Copy, Debug, PartialEq, Eq)]
 pub struct Excess {
-    /// What was counted.
+    /// The measure.
     pub measure: Measure,
     /// The count, or 18,446,744,073,709,551,615 where it is greater.
     pub count: u64,

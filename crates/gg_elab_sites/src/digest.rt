@@ -1,4 +1,4 @@
-//! What each module says, read once.
+//! The contents of each module, read once.
 ghost use Rattle.std.specs.Prelude.{◌≡◌, ◌<◌, ◌^◌, map, length, option_map, option_to_list, ◌++◌, IfOk, OnOk};
 ghost use Rattle.gg_elab_sites.specs.Sites.{held_by, held_by_kind, module_at};
 ghost use Rattle.gg_elab_sites.specs.Known.{types_of};
@@ -27,7 +27,7 @@ pub struct Instance<'a> {
 pub struct OwnMemory<'a> {
     /// Its name.
     pub name: &'a Name,
-    /// What its fields say.
+    /// Its words, its latency and its ports, from its fields.
     pub bank: Bank<'a>,
 }
 
@@ -158,7 +158,7 @@ fn add_memory<'a>(
     }
 }
 
-// What the module at a place says.
+// The digest of the module at a place.
 fn digest_of<'a>(
     alloc: Global,
     typed: &Typed,
@@ -183,7 +183,7 @@ fn digest_of<'a>(
     })
 }
 
-/// What each module of a circuit says, by the modules' places.
+/// The digest of each module of a circuit, by the modules' places.
 ///
 /// # Errors
 ///

@@ -1,4 +1,4 @@
-//! What the type checks say of the names of a circuit.
+//! The types of a circuit's names, from the type checks.
 ghost use Rattle.std.specs.Prelude.{◌≡◌, ◌<◌, length, option_map};
 ghost use Rattle.gg_bits.specs.Shape.{shape};
 ghost use Rattle.gg_types.specs.inside.Typed.{sort};

@@ -44,7 +44,7 @@
 //!   modules, regardless of the number of sites. A count saturates at 18,446,744,073,709,551,615;
 //! - `Counts::excess` is the first count above its limit, or none.
 //!
-//! The caller gives the number of each module's own signals.
+//! The caller passes the number of each module's own signals.
 #![tactic(auto)]
 
 mod clocks;

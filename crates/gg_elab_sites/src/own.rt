@@ -16,7 +16,7 @@ use gg_flat::{Latency, address_width};
 use gg_types::{Bank, Typed, bank_of, ground_type};
 use std::alloc::{AllocError, Global};
 
-/// What gives a signal its value, as its module says.
+/// The source of a signal's value in its module.
 #[derive(Clone, Copy)]
 pub enum Origin<'a> {
     /// An input port: its value comes from what holds the module.
@@ -32,7 +32,7 @@ pub enum Origin<'a> {
     Answered(&'a Name, &'a Name, u32, Latency),
 }
 
-/// A signal of a module: its name as it is written there, its type, and what gives it its value.
+/// A signal of a module: its name as it is written there, its type, and the source of its value.
 pub struct OwnSignal<'a> {
     pub name: Name,
     pub ty: Ty,

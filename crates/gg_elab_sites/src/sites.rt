@@ -15,7 +15,7 @@ use gg_flat_tree::clocks_at;
 use gg_types::Typed;
 use std::alloc::{AllocError, Global};
 
-/// What holds an instance: its path, the place of its module, and the name that the instance has there.
+/// The site that holds an instance: its path, the place of its module, and the name of the instance there.
 pub struct Around<'a> {
     pub path: Name,
     pub number: u32,
@@ -33,7 +33,8 @@ impl Drop for Around<'_> {
     }
 }
 
-/// A step from an instance to what holds it: the place of the module there, and the name that the instance has in it.
+/// A step from an instance to the site that holds it: the place of the module there, and the name of the instance in
+/// it.
 #[derive(Clone, Copy)]
 pub struct Step<'a> {
     pub number: u32,

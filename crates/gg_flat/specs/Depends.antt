@@ -1,4 +1,4 @@
--- What a settled row depends on.
+-- Which inputs a settled row depends on.
 -- Source: MEMOCODE 2009 (an output is ready when the inputs that it depends on are there), over the settled cycle.
 use Rattle.std.specs.Prelude.{◌≡◌, ℕ, List, Contains}
 use Rattle.gg_flat.specs.Line.{value_at}

@@ -22,7 +22,7 @@ value_at values i = slice_index_or values i 0
 abbrev pub shapes_of : List Node → List Shape
 shapes_of nodes = map (λ node. shape node.ty) nodes
 
--- what the node at a place does; past the end it refers to signal 0
+-- the operation of the node at a place; past the end a reference to signal 0
 abbrev pub op_at : List Node → ℕ → Op
 op_at nodes i = slice_index_or (map (λ node. node.op) nodes) i (Ref 0)
 
@@ -43,7 +43,7 @@ pub record IsLine (Named : ℕ → Shape → Type 0) (nodes : List Node) : Type 
   pub some : 0 < length nodes
   pub typed : (k : ℕ) → k < length nodes → HasShape Named (shapes_of nodes) k (shape_at (shapes_of nodes) k) (op_at nodes k)
 
--- signal s is among these shapes, and has the shape `to`
+-- signal s has a shape in this list, and it is `to`
 abbrev pub HasType : List Shape → ℕ → Shape → Type 0
 HasType signals s to = (s < length signals) × (shape_at signals s ≡ to)
 

@@ -1,8 +1,7 @@
 -- Memories: the width of their addresses, and what their words and read registers become in a tick.
--- Source: FIRRTL Specification, "Memories" (ports, latencies, read under write). The rest is this program's profile.
--- Words and read registers start at 0. A read past the depth, or by a reader that isn't enabled, gives 0. A write past
--- the depth is dropped. If two writers write the same word the later in the file wins. An undefined read gives the old
--- word.
+-- Source: FIRRTL Specification, "Memories" (ports, latencies, read under write). The rest is this program's profile. Words and read
+-- registers start at 0. A read past the depth, or by a reader that isn't enabled, returns 0. A write past the depth is dropped. If two
+-- writers write the same word the later in the file wins. An undefined read returns the old word.
 use Rattle.std.specs.Prelude.{◌≡◌, ℕ, zero, suc, ◌^◌, List, [], ◌∷◌, length, replicate, slice_index_or, Bool, ◌==◌, ◌&&◌, if◌then◌else◌, nat_le, ◌<◌}
 use Rattle.gg_bits.specs.Shape.{Shape, shape, Fits}
 use Rattle.gg_flat.specs.declared.memory.UnderWrite.{UnderWrite}
@@ -28,7 +27,7 @@ address_width depth = first_width 31 1 depth
 
 -- ---- words and read registers
 
--- what a memory holds: its words, and the read register of each of its late readers
+-- the contents of a memory: its words, and the read register of each of its late readers
 pub record Bank : Type 0 where
   pub words : List ℕ
   pub reads : List ℕ
@@ -80,7 +79,7 @@ abbrev pub next_reads : List Bool → List ℕ → Latency → List Reader → L
 next_reads edges signals Zero readers before after own = []
 next_reads edges signals (One under) readers before after own = late_reads edges signals (words_read under before after) readers own
 
--- what a memory holds after a tick with these edges, if the signals have the values `signals`
+-- the contents of a memory after a tick with these edges, if the signals have the values `signals`
 abbrev pub next_bank : List Bool → List ℕ → Memory → Bank → Bank
 next_bank edges signals memory bank =
     record {
@@ -93,7 +92,7 @@ abbrev pub read_count : Latency → List Reader → ℕ
 read_count Zero readers = 0
 read_count (One under) readers = length readers
 
--- what a memory holds before the first cycle
+-- the contents of a memory before the first cycle
 abbrev pub opening_bank : Memory → Bank
 opening_bank memory = record { words = replicate memory.depth 0; reads = replicate (read_count memory.latency memory.readers) 0 }
 
@@ -102,7 +101,7 @@ pub record AreWords (word : Shape) (n : ℕ) (values : List ℕ) : Type 0 where
   pub count : length values ≡ n
   pub fits : (i : ℕ) → Fits word (value_at values i)
 
--- what a memory can hold, by counts and types
+-- contents that a memory can have, by counts and types
 pub record IsBank (memory : Memory) (bank : Bank) : Type 0 where
   pub words : AreWords (shape memory.word) memory.depth bank.words
   pub reads : AreWords (shape memory.word) (read_count memory.latency memory.readers) bank.reads
@@ -117,17 +116,17 @@ WritesAmong n writer = (writer.addr < n) × (writer.en < n) × (writer.word < n)
 
 -- ---- the memories of a circuit
 
--- what the memory at a place holds; nothing past the end
+-- the contents of the memory at a place; empty past the end
 abbrev pub bank_at : List Bank → ℕ → Bank
 bank_at banks m = slice_index_or banks m (record { words = []; reads = [] })
 
--- what the memories hold after the tick
+-- the contents of the memories after the tick
 abbrev pub next_banks : List Bool → List ℕ → List Memory → List Bank → List Bank
 next_banks edges signals [] banks = []
 next_banks edges signals (memory ∷ memories) [] = []
 next_banks edges signals (memory ∷ memories) (bank ∷ banks) = next_bank edges signals memory bank ∷ next_banks edges signals memories banks
 
--- what the memories can hold
+-- contents that the memories can have
 pub record AreBanks (memories : List Memory) (banks : List Bank) : Type 0 where
   pub count : length banks ≡ length memories
   pub each : (m : ℕ) (any : Memory) → m < length memories → IsBank (slice_index_or memories m any) (bank_at banks m)

@@ -1,4 +1,4 @@
--- A memory that serves one port after another: what it holds after the first of its accesses.
+-- A memory that serves one port after another: its contents after its first accesses.
 -- Source: FIRRTL Specification, "Memories". Late readers of old words come before the writers, and late readers of new words after them, as
 -- "Memories" defines a read under a write.
 use Rattle.std.specs.Prelude.{ℕ, suc, List, [], ◌∷◌, ◌++◌, slice_set, Bool, ◌==◌, ◌&&◌, if◌then◌else◌}
@@ -41,7 +41,7 @@ written edges signals words writer = if ticks edges writer.clock && (value_at si
 abbrev pub looked : List Bool → List ℕ → List ℕ → List ℕ → ℕ → Reader → List ℕ
 looked edges signals words reads r reader = if ticks edges reader.clock then slice_set reads r (found_word signals words reader) else reads
 
--- what a memory holds after an access in a tick with these edges, if the fields have the values `signals`
+-- the contents of a memory after an access in a tick with these edges, if the fields have the values `signals`
 abbrev pub after_access : List Bool → List ℕ → Bank → Access → Bank
 after_access edges signals bank (ByReader r reader) = record { words = bank.words; reads = looked edges signals bank.words bank.reads r reader }
 after_access edges signals bank (ByWriter w writer) = record { words = written edges signals bank.words writer; reads = bank.reads }

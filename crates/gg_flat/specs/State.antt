@@ -11,7 +11,7 @@ use Rattle.gg_flat.specs.Circuit.{FlatCircuit, register_shapes}
 use Rattle.gg_flat.specs.Clock.{ticks}
 use Rattle.gg_flat.specs.Memory.{Bank, opening_bank, next_banks, AreBanks}
 
--- a state: the registers' values, and what each memory holds
+-- a state: the registers' values, and the contents of each memory
 pub record State : Type 0 where
   pub registers : List ℕ
   pub banks : List Bank

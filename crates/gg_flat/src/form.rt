@@ -43,7 +43,7 @@ pub(crate) enum Nested {
     Cut(OpN, Ty, u32, u32, Op2, Ty, Operand, Operand),
 }
 
-// What a line does. Its result and all operands are of kind `UInt`, unless it is `Long`.
+// The form of a line. Its result and all operands are of kind `UInt`, unless it is `Long`.
 #[derive(Clone, Copy)]
 pub(crate) enum Form {
     // Anything: its nodes are worked out one after another.

@@ -8,7 +8,7 @@ use gg_bits::{Op1, Op2, OpN, Ty, Val};
 use std::alloc::{AllocError, Global};
 use std::marker::Model;
 
-/// What a node of a line does. Its operands are earlier nodes of the same line, by their numbers.
+/// The operation of a node of a line. Its operands are earlier nodes of the same line, by their numbers.
 ///
 /// These are the expressions of the FIRRTL Specification ("Expressions"): a reference, a literal, a primitive operation
 /// or a multiplexer.
@@ -28,12 +28,12 @@ pub enum Op {
     Mux(u32, u32, u32),
 }
 
-/// A node of a line: what it does, and the type of its value.
+/// A node of a line: its operation, and the type of its value.
 #[derive(Clone, Copy, PartialEq, Eq)]
 pub struct Node {
     /// The type of the value.
     pub ty: Ty,
-    /// What the node does.
+    /// The operation.
     pub op: Op,
 }
 

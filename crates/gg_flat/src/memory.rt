@@ -6,18 +6,18 @@ use gg_bits::Ty;
 use std::alloc::AllocError;
 use std::marker::Model;
 
-/// What a late reader gives if a writer writes the word that it reads (FIRRTL Specification, "Memories").
+/// What a late reader returns if a writer writes the word that it reads (FIRRTL Specification, "Memories").
 #[derive(Clone, Copy, PartialEq, Eq)]
 pub enum UnderWrite {
     /// The word before the writes.
     Old,
     /// The word after the writes.
     New,
-    /// Undefined: this program gives the word before the writes.
+    /// Undefined: this program returns the word before the writes.
     Undefined,
 }
 
-/// The read latency of a memory: how many cycles after its address a reader gives the word.
+/// The read latency of a memory: how many cycles after its address a reader returns the word.
 #[derive(Clone, Copy, PartialEq, Eq)]
 pub enum Latency {
     /// The same cycle.
@@ -33,7 +33,7 @@ pub struct Reader {
     pub addr: u32,
     /// Whether it reads: one unsigned bit.
     pub en: u32,
-    /// The word that it gives, of the memory's type.
+    /// The word that it returns, of the memory's type.
     pub word: u32,
     /// The clock that it follows, by its place among the piece's clocks; none: every tick.
     pub clock: Option<u32>,
@@ -160,7 +160,7 @@ pub struct Memory {
     pub word: Ty,
     /// How many words there are: at least 1.
     pub depth: u32,
-    /// When its readers give their words.
+    /// When its readers return their words.
     pub latency: Latency,
     /// Its read ports.
     pub readers: Readers,

@@ -9,7 +9,7 @@ use gg_bits::{AddError, Name, Paths, Ty};
 use std::alloc::{AllocError, Global};
 use std::marker::Model;
 
-/// What gives a signal its value in a cycle.
+/// The driver of a signal: the source of its value in a cycle.
 #[derive(Drop)]
 pub enum Driver {
     /// The outside: the input at this place among the in-signals.
@@ -45,7 +45,7 @@ impl Clone for Driver {
 pub struct Signal {
     /// The type of its values.
     pub ty: Ty,
-    /// What gives it its value.
+    /// Its driver.
     pub driver: Driver,
 }
 
@@ -100,7 +100,7 @@ pub struct Register {
     pub ty: Ty,
     /// Its reset, if it has one.
     pub reset: Option<Reset>,
-    /// What is connected to it, if anything is.
+    /// Its connection, if it has one.
     pub next: Option<Line>,
     /// The clock that it follows, by its place among the piece's clocks; none: every tick.
     pub clock: Option<u32>,

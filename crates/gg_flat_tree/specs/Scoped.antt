@@ -1,6 +1,6 @@
--- Scoping: which signals the driver of a signal, a register and a memory can name, and how signals are named in the tree. Source: FIRRTL
--- Specification, "Namespaces" (the names of one module are distinct, and it sees the names of its declarations and of its instances'
--- ports), "Instances", "Memories" (the fields of a port), "Connects".
+-- Scoping: which signals the driver of a signal, a register and a memory can name, and how signals are named in the tree.
+-- Source: FIRRTL Specification, "Namespaces" (the names of one module are distinct, and it sees the names of its declarations and of its
+-- instances' ports), "Instances", "Memories" (the fields of a port), "Connects".
 use Rattle.std.specs.Prelude.{◌≡◌, ◌≢◌, ◌⊎◌, ℕ, ◌<◌, List, [], ◌∷◌, ◌++◌, true, not, Some, length, map, flat_map, filter, slice_get, slice_index_or, Contains, AllPairs}
 use Rattle.gg_flat_tree.specs.declared.tree.InstancePort.{InstancePort}
 use Rattle.gg_flat.specs.declared.memory.Reader.{Reader}

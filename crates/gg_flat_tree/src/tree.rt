@@ -352,6 +352,10 @@ impl Tree {
     }
 
     /// Adds the Clock input that the next register of the flat circuit follows.
+    ///
+    /// # Errors
+    ///
+    /// Returns `AllocError` if an allocation fails. The tree then stays as it was.
     pub fn add_register_clock(&mut self, clock: Option<u32>) -> Result<(), AllocError>
         ensures ok { OnOk result (self.new ≡ record self.old { register_clocks = self.old.register_clocks ++ clock ∷ [] }) }
         ensures err { OnErr result (self.new ≡ self.old) }

@@ -43,6 +43,21 @@ use std::alloc::{AllocError, Global};
 /// first fault if the bytes spell a circuit that isn't accepted: a fault of shape (F1 to F8), of types (F9 to F14), of
 /// the limits (F15), or a loop (F16). Any one of several rings of modules, or of several loops, may be reported.
 /// Returns `NoMemory` if an allocation fails.
+///
+/// # Examples
+///
+/// ```rust
+/// let text = "circuit Inverter :
+///   module Inverter :
+///     input a : UInt<8>
+///     output b : UInt<8>
+///     b <= not(a)
+/// ";
+/// let design = front(alloc, text.as_bytes())?;
+/// // Signal 0 is `a`, and signal 1 is `b`. Because `b` reads `a`, `design.order()` is `[0, 1]`.
+/// ```
+///
+/// Without the last line of the module the result is `Fault` with F5: the sink `b` of line 4 has no connection.
 pub fn front(alloc: Global, bytes: &[u8]) -> Result<Design, FrontFault>
     requires { length bytes.now < 2 ^ 32 }
     ensures ok { IfOk result (λ design. MeansDesign bytes.now design) }

@@ -1,4 +1,4 @@
-//! Why a walk gives no order.
+//! Why a walk finds no order.
 ghost use Rattle.std.specs.Prelude.{◌≡◌};
 ghost use Rattle.gg_graph.specs.declared.fault.WalkFault.TheVariants.{NoMemory};
 

@@ -30,7 +30,7 @@ pub record Puts : Type 1 where
   pub failed : Type 0
   pub troubled : Type 0
 
--- what was loaded between these moments of a shelf
+-- the loads between these moments of a shelf
 abbrev pub loads_of : {S : Type 0} → Shelf.Ghosts S → (before now : S) → Loads
 loads_of shelf before now =
     record {
@@ -39,7 +39,7 @@ loads_of shelf before now =
       cut = λ name. Rose (shelf.cuts before name) (shelf.cuts now name);
     }
 
--- what was put between these moments of an output
+-- the puts between these moments of an output
 abbrev pub puts_of : {K : Type 0} → Sink.Ghosts K → (before now : K) → Puts
 puts_of sink before now =
     record {

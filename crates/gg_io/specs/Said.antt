@@ -1,5 +1,5 @@
--- What a call reports if it doesn't write its whole text: its status, and a line on the error output. Source: this program's own.
--- docs/FORMATS.md lists the lines.
+-- What a call reports if it doesn't write its whole text: its status, and a line on the error output.
+-- Source: this program's own. docs/FORMATS.md lists the lines.
 use Rattle.std.specs.Prelude.{ℕ, List, [], ◌∷◌, ◌++◌, codes, decimal}
 
 -- what is reported: a status and a line

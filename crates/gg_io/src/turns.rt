@@ -1,4 +1,4 @@
-//! What a worker passes at each of its turns.
+//! `Gate`: a place that a worker passes at each of its turns.
 
 /// A place that workers pass. It returns nothing, so no result can depend on it; a test may use it to make one worker
 /// wait for another. It is shared between workers.

@@ -6,7 +6,7 @@ use Rattle.gg_flat.specs.WellFormed.{IsWellFormed}
 use Rattle.gg_flat_tree.specs.Tree.{InstanceTree}
 use Rattle.gg_flat.specs.Order.{IsOrder}
 
--- what a contract sees of a design
+-- a design as a contract sees it
 pub record Ordered : Type 0 where
   pub circuit : FlatCircuit
   pub tree : InstanceTree

@@ -7,7 +7,7 @@ use gg_flat::{Driver, Node, Op, Piece};
 use gg_graph::{Graph, Target};
 use std::marker::Model;
 
-// What the signals of a well-formed circuit read. A contract sees the circuit.
+// The dependencies of a well-formed circuit's signals. A contract sees the circuit.
 #[derive(Drop)]
 pub(crate) struct Dependencies<'a> {
     pub(crate) piece: &'a Piece,

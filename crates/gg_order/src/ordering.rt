@@ -25,6 +25,16 @@ pub type Order = Ids;
 /// Returns `Loop` with a combinational loop of the circuit, exactly if there is one. The loop begins with the signal
 /// that has the least path by bytes. If there are several loops, it is any one of them. Returns `NoMemory` if an
 /// allocation fails.
+///
+/// # Examples
+///
+/// ```rust
+/// // Signal 0 of `piece` is its input `a`. Signal 1, `b`, reads signal 2, `n`, and `n` reads `a`.
+/// let found = order(alloc, &piece)?;
+/// // `found` is `[0, 2, 1]`.
+/// ```
+///
+/// If `n` read `b`, the result would be `Loop` with `[1, 2]`, because the path `b` is less than the path `n`.
 pub fn order(alloc: Global, piece: &Piece) -> Result<Order, OrderFault>
     requires { IsWellFormed piece.now }
     ensures order { IfOk result (λ order. IsOrder piece.now order) }

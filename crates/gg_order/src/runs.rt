@@ -5,9 +5,9 @@
 //! - `State::advance` makes the next state, in a tick where some clocks have an edge (`ticks`).
 //! - Along an order there is exactly one run from each start, the opening or another (`runs_along`, `run_once`), and a
 //!   run can be split in two and joined again (`runs_split`, `runs_on`).
-//! - A memory that serves its accesses one after another holds the same after the cycle (`one_served`, `all_served`).
-//!   `Bank::serve_reader` and `Bank::serve_writer` serve one access.
-//! - A signal's value, and what a register and a memory become, depend only on the signals that they name
+//! - A memory that serves its accesses one after another has the same contents after the cycle (`one_served`,
+//!   `all_served`). `Bank::serve_reader` and `Bank::serve_writer` serve one access.
+//! - A signal's value, a register's next value and a memory's next contents depend only on the signals that they name
 //!   (`values_agree`). A signal's value in a settled cycle depends only on the in-signals that it reaches
 //!   (`depends_on_reached`).
 //!

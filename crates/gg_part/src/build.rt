@@ -250,6 +250,19 @@ fn add_all(
 /// # Errors
 ///
 /// Returns `AllocError` if an allocation fails.
+///
+/// # Examples
+///
+/// ```rust
+/// // Signal 0 of `whole` is its input `a`. Signal 1, `b`, reads signal 2, `n`, and `n` reads `a`. There are no
+/// // registers, memories and clocks. The part computes `b` from `n`.
+/// let clocking = Clocking {
+///     registers: Items::from(Vec::new(alloc)),
+///     ports: Items::from(Vec::new(alloc)),
+/// };
+/// let part = part_of(alloc, &whole, &[], &clocking, &[2, 1], &[2], &[1], &[])?;
+/// // In the part `n` is signal 0, its only in-signal, and `b` is signal 1, its only out-signal.
+/// ```
 pub fn part_of(
     alloc: Global,
     whole: &Piece,

@@ -8,8 +8,8 @@ use std::alloc::{AllocError, Global};
 use std::marker::Model;
 
 // Numbers of the whole circuit's signals, registers or memories. The number at a place is the number in the whole
-// circuit of what the part has at that place. A contract sees the list. A table gives the place of each number. It
-// has an entry for everything that the whole circuit has.
+// circuit of what the part has at that place. A contract sees the list. A table has the place of each number. It has an
+// entry for everything that the whole circuit has.
 pub(crate) struct Numbers {
     items: Vec<u32>,
     places: Vec<u32>,

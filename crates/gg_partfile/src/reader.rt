@@ -21,6 +21,16 @@ use std::alloc::Global;
 /// # Errors
 ///
 /// Returns `WrongKey` exactly if the bytes hold no request. Returns `NoMemory` if an allocation fails.
+///
+/// # Examples
+///
+/// ```rust
+/// let request = read_partition(alloc, b"{\"units\": [\"a\", \"b\"], \"share\": [[\"a\", \"b\"]]}")?;
+/// // `request.units` has `a` and `b`, and `request.share` has one list, of both. The other keys are absent, so their
+/// // lists are empty, and `request.direct` is false.
+/// ```
+///
+/// For `{"units": "a", "zone": 0}` the result is `WrongKey` with `units`: a wrong shape comes before an unknown key.
 pub fn read_partition(alloc: Global, bytes: &[u8]) -> Result<Request, PartFault>
     ensures request { IfOk result (IsPartition bytes.now) }
     ensures entries { IfOk result (HasAtMost (length bytes.now)) }

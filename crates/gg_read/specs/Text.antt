@@ -16,7 +16,7 @@ use Rattle.gg_read.specs.declared.text.ReadFault.{ReadFault}
 use Rattle.gg_read.specs.declared.text.ReadFault.TheVariants.{NotText, Syntax, Outside, TooDeep, NoMemory}
 use Rattle.gg_read_row.specs.Forms.{SpellsRow}
 
--- what a line has: its tokens, up to the first byte that begins none, and that byte's place if there is one
+-- the tokens of a line, up to the first byte that begins none, and that byte's place if there is one
 pub record LineTokens : Type 0 where
   pub tokens : List Tok
   pub bad : Option ℕ
@@ -214,7 +214,7 @@ without_version (r ∷ rows) = if is_version r.row then rows else r ∷ rows
 -- version line above them. If a line is too deep, the text has a fault line too, and no circuit is read.
 pub record Spells (text : List ℕ) (circuit : CircuitTree) : Type 0 where
   pub utf8 : IsUtf8 text
-  -- what each line has
+  -- the tokens of each line
   pub held : List LineTokens
   pub tokens : AreLineTokens (lines text) held
   -- the position after the last line
@@ -241,7 +241,7 @@ AreShallow (line ∷ more) = (IsTooDeep line.tokens → ⊥) × AreShallow more
 -- the fault line of a text: the first line that is at fault at its position; otherwise, if the text is incomplete, the
 -- line after the last, which is blank
 pub record IsFaultLine (text : List ℕ) (n : ℕ) (line : LineTokens) : Type 0 where
-  -- what the lines before it have
+  -- the tokens of the lines before it
   pub before : List LineTokens
   pub tokens : AreLineTokens (take (length before) (lines text)) before
   -- the rows that these lines are, and the position after them

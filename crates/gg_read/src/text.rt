@@ -22,7 +22,7 @@ pub enum ReadFault {
     NotText,
     /// This line, counted from 1, is not valid at its position.
     Syntax { line: u64 },
-    /// The same, and `word` is the first word or symbol of the line that is left out of the language.
+    /// This line is not valid at its position, and `word` is its first word or symbol that is left out of the language.
     Outside { line: u64, word: Name },
     /// At some token of this line the `(` from its beginning up to the token outnumber the `)` by more than 256. They
     /// may be fewer before: a `)` and then 257 `(` are not too deep.
@@ -42,6 +42,15 @@ pub enum ReadFault {
 /// after the last. The fault is `TooDeep` if at some token of the line the count of `(` less the count of `)` is above
 /// 256. Otherwise it is `Outside` with the line's first word that is left out of the language, or `Syntax` if there is
 /// none. Returns `NoMemory` if an allocation fails; this has no cause in the text.
+///
+/// # Examples
+///
+/// ```rust
+/// let circuit = read_circuit(alloc, b"circuit Empty :\n  module Empty :\n    skip\n")?;
+/// // `circuit.name()` is `Empty`. Its only module has one statement, `skip` on line 3.
+/// ```
+///
+/// With `when a :` in place of `skip` the result is `Outside` with line 3 and the word `when`.
 pub fn read_circuit(alloc: Global, bytes: &[u8]) -> Result<Circuit, ReadFault>
     requires { length bytes.now < 2 ^ 32 }
     ensures circuit { IfOk result (Spells bytes.now) }

@@ -6,7 +6,7 @@ use crate::expression::ground_type;
 use gg_ast::{FieldWord, GroundType, MemoryField, ReadUnderWrite};
 use std::alloc::Global;
 
-// What a field says, after its word and `=>`.
+// The value of a field, after its word and `=>`.
 pub(crate) fn field(
     alloc: Global,
     cursor: &mut Cursor,

@@ -15,7 +15,7 @@ use gg_bits::Name;
 use gg_lex::{Symbol, Tok};
 use std::alloc::Global;
 
-/// What a line says.
+/// The row of a line.
 #[derive(Drop)]
 pub enum LineRow {
     /// `FIRRTL version N.N.N`.

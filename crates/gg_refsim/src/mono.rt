@@ -132,6 +132,19 @@ impl<'a> Mono<'a> {
     /// cycles were made before. It allocates nothing.
     ///
     /// The inputs are in port order, one for each in-signal, of its type. `outs` has a place for each out-signal.
+    ///
+    /// # Examples
+    ///
+    /// ```rust
+    /// // `design` is the design of a module with the input `a`, the output `b` and the register `r`, where `r <= a`
+    /// // and `b <= r` (gg_front's `front` makes it).
+    /// let mut mono = Mono::with_clocks(alloc, &design, &[])?;
+    /// let mut outs = [0];
+    /// mono.cycle(&[5], &mut outs);
+    /// // `outs` is `[0]`, because the register is 0 at first.
+    /// mono.cycle(&[7], &mut outs);
+    /// // `outs` is `[5]`.
+    /// ```
     pub fn cycle(&mut self, inputs: &[u128], outs: &mut [u128])
         requires few { self.old.cycle < cycle_limit }
         requires inputs { IsInputs self.old.circuit inputs.now }

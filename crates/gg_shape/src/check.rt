@@ -16,7 +16,7 @@ use gg_ast::Circuit;
 use gg_shape_names::{NamesFault, Namespace};
 use std::alloc::Global;
 
-/// What `shape` returns in place of Ok.
+/// The error of `shape` and `shaped`.
 pub type ShapeFault = CheckFault;
 
 /// Checks a circuit for the faults F1 to F8. Returns Ok exactly if it has none of them.

@@ -102,7 +102,7 @@ pub enum Fault {
     },
     /// F15: a count is above its limit.
     OverLimit {
-        /// What is counted.
+        /// The kind of count.
         limit: Limit,
         /// The count. A count above 18,446,744,073,709,551,615 is reported as that number.
         count: u64,
@@ -167,7 +167,7 @@ pub enum Limit {
     Instances,
 }
 
-/// What a check returns in place of Ok.
+/// The error of a check: a fault of the circuit, or a failed allocation.
 #[derive(Debug, Drop)]
 pub enum CheckFault {
     /// The first fault of the circuit.

@@ -2,7 +2,7 @@
 use crate::small::Small;
 use gg_bits::{Op1, Op2, OpN};
 
-// What an instruction does.
+// The operation of an instruction.
 #[derive(Clone, Copy)]
 pub(crate) enum Operation {
     // It takes the value of the cell `first`.
@@ -22,7 +22,7 @@ pub(crate) enum Operation {
 // An instruction, which writes one cell.
 #[derive(Clone, Copy)]
 pub(crate) struct Instruction {
-    // What is done.
+    // The operation.
     pub(crate) operation: Operation,
     // The type of the result.
     pub(crate) ty: Small,

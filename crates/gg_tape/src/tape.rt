@@ -23,7 +23,7 @@ use gg_flat::{Driver, Line, Piece};
 use gg_order::{State, driver_value};
 use std::alloc::{AllocError, Global};
 
-// What a tape has for a signal: its instructions, and the types of its line and of itself.
+// A signal of a tape: its instructions, and the types of its line and of itself.
 #[derive(Clone, Copy)]
 pub(crate) struct Stretch {
     // The first instruction.

@@ -1,4 +1,4 @@
--- The value that a field of a trace gives.
+-- The value of a field of a trace.
 -- Source: this program's own form; docs/FORMATS.md describes it.
 use Rattle.std.specs.Prelude.{ℕ, ◌^◌, ◌<◌, List}
 use Rattle.std.specs.Str.Parse.{IsNumeral, digits_value}

@@ -1,4 +1,4 @@
--- What a trace holds: a column of values for each port.
+-- The contents of a trace: a column of values for each port.
 use Rattle.std.specs.Prelude.{ℕ, List, map, slice_index}
 
 -- row r of these columns: a value for each port, in port order

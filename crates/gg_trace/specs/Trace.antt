@@ -37,8 +37,8 @@ pub record IsRow (ports : List Port) (header : List (List ℕ)) (r : ℕ) (row :
   pub number : field row 0 ≡ decimal r
   pub values : (f : ℕ) → 0 < f → f < length header → IsValueField ports header row f
 
--- The text has a header and n rows, and gives these columns: in row r the value of port i is the number written in the
--- field below the port's name.
+-- The text has a header and n rows, and these columns: in row r the value of port i is the number written in the field below the port's
+-- name.
 pub record Columns (ports : List Port) (bytes : List ℕ) (n : ℕ) (columns : List (List ℕ)) : Type 0 where
   pub header : IsHeader ports (header_of bytes)
   pub count : length (rows_of bytes) ≡ n

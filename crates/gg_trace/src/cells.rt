@@ -1,4 +1,4 @@
-//! The value that a field gives: hexadecimal digits that fit a width.
+//! The value of a field: hexadecimal digits that fit a width.
 
 ghost use Rattle.std.specs.Prelude.{◌≡◌, ℕ, ◌+◌, ◌*◌, ◌^◌, ◌<◌, ◌≤◌, ◌↔◌, IsTrue, MatchOption, MatchResult};
 ghost use Rattle.gg_trace.specs.Cells.{IsCell, IsHexadecimal, hexadecimal};
@@ -29,8 +29,8 @@ fn with_digit(value: Option<u128>, digit: u32) -> Option<u128>
     value?.checked_mul(16)?.checked_add(u128::from(digit))
 }
 
-// The value that the digits of a field give, or None if it doesn't fit 128 bits. Returns an error if the field isn't
-// one or more digits.
+// The value of a field's digits, or None if it doesn't fit 128 bits. Returns an error if the field isn't one or more
+// digits.
 fn digits_of(field: &[u8]) -> Result<Option<u128>, CellFault>
     ensures { MatchResult result
         (λ value. IsHexadecimal field.now
@@ -50,7 +50,7 @@ fn digits_of(field: &[u8]) -> Result<Option<u128>, CellFault>
     Ok(value)
 }
 
-// The value that a field gives, if it fits this width.
+// The value of a field, if it fits this width.
 pub(crate) fn value_of(field: &[u8], width: u32) -> Result<u128, CellFault>
     requires { width ≤ 128 }
     ensures { MatchResult result

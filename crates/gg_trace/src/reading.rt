@@ -45,7 +45,7 @@ fn read_lines(alloc: Global, ports: &[Port], bytes: &[u8]) -> Result<Trace, Trac
     Ok(Trace::of(rows, ports.len(), cells))
 }
 
-/// Reads an input trace: the columns that its text gives, one for each port, or its first fault.
+/// Reads an input trace: the columns of its text, one for each port, or its first fault.
 ///
 /// The header is `cycle` and the names of all ports, each once, in any order. Row r is r in decimal, followed by a
 /// value for each port in hexadecimal. The first fault is the header's fault, if it has one, otherwise the first fault
@@ -57,6 +57,16 @@ fn read_lines(alloc: Global, ports: &[Port], bytes: &[u8]) -> Result<Trace, Trac
 /// # Errors
 ///
 /// Returns the first fault of the text, or `NoMemory` if an allocation fails.
+///
+/// # Examples
+///
+/// ```rust
+/// // `ports` are `x` of 8 bits and `y` of 4 bits.
+/// let trace = read_trace(alloc, &ports, b"cycle y x\n0 f 0a\n1 0 ff\n")?;
+/// // `trace.rows()` is 2. In port order `trace.row(0)` is `[10, 15]`, and `trace.row(1)` is `[255, 0]`.
+/// ```
+///
+/// With `10` in place of `f` the result is `TooWide` with row 0 and field 1.
 pub fn read_trace(alloc: Global, ports: &Ports, bytes: &[u8]) -> Result<Trace, TraceFault>
     requires { HasDistinctNames ports.now }
     // The trace has the columns of the text, and each value fits its port.

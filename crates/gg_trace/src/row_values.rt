@@ -33,8 +33,8 @@ fn read_value(text: &[u8], width: u32, row: u64, at: u64) -> Result<u128, TraceF
     }
 }
 
-// Writes the values of the fields after a row's number, each at its port's place: the field at place g gives the value
-// of port `places[g]`. A fault carries `row`.
+// Writes the values of the fields after a row's number, each at its port's place: the field at place g is the value of
+// port `places[g]`. A fault carries `row`.
 //
 // # Errors
 //
@@ -73,7 +73,7 @@ fn is_decimal(text: &[u8], number: u64) -> bool
     same_bytes(text, buffer.format(number).as_bytes())
 }
 
-// Writes the values of row `row`, from its text `line`, each at its port's place: field g + 1 gives the value of port
+// Writes the values of row `row`, from its text `line`, each at its port's place: field g + 1 is the value of port
 // `places[g]`.
 //
 // # Errors

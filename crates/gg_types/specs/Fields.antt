@@ -1,4 +1,4 @@
--- What the fields of a memory say. This program's profile: if a field occurs twice, the first counts.
+-- The values of a memory's fields. This program's profile: if a field occurs twice, the first counts.
 -- Source: FIRRTL Specification, "Memories" (data type, depth).
 use Rattle.std.specs.Prelude.{ℕ, List, [], ◌∷◌, Option, Some, None}
 use Rattle.gg_bits.specs.Lists.{or_else}
@@ -7,7 +7,7 @@ use Rattle.gg_ast.specs.declared.statement.Field.{Field}
 use Rattle.gg_ast.specs.declared.statement.MemoryField.{MemoryField}
 use Rattle.gg_ast.specs.declared.statement.MemoryField.TheVariants as field
 
--- what the first field that has something says
+-- the value of the first field that has one
 abbrev pub first_said : {A : Type 0} → (MemoryField → Option A) → List Field → Option A
 first_said said [] = None
 first_said said (f ∷ fs) = or_else (said f.kind) (first_said said fs)

@@ -46,7 +46,7 @@ under_write word.Old = Old
 under_write word.New = New
 under_write word.Undefined = Undefined
 
--- what `read-under-write` says; no other field says it
+-- the value of `read-under-write`; no other field has it
 abbrev pub under_said : MemoryField → Option UnderWrite
 under_said (field.DataType ty) = None
 under_said (field.Depth n) = None

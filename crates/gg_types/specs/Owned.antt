@@ -1,6 +1,6 @@
 -- The type of what a reference names. A port, a wire and a register have the type that they are declared with, a node the type of its
--- expression. A port of an instance has the type that its module gives it. A field of a memory has its own. Sources: FIRRTL Specification,
--- "Ground Types", "Instances", "Memories".
+-- expression. A port of an instance has the type that its module gives it. A field of a memory has its own.
+-- Sources: FIRRTL Specification, "Ground Types", "Instances", "Memories".
 use Rattle.std.specs.Prelude.{ℕ, List, Option, Some, None, option_map}
 use Rattle.gg_bits.specs.Shape.{uint}
 use Rattle.gg_ast.specs.declared.expression.Reference.{Reference}

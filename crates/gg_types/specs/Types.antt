@@ -284,7 +284,7 @@ module _ (roles : List (Reference × Role)) (traced : List ℕ → Bool) where
   faults_of_kind known line (kinds.Report word arguments label) =
       report_faults known line (words.Report word) arguments
 
-  -- what a statement declares; a node's type is its expression's
+  -- the names and types that a statement declares; a node's type is its expression's
   abbrev pub own_by : List (List ℕ × Option Own) → statements.StmtKind → List (List ℕ × Option Own)
   own_by known (kinds.Wire name ty) = (name, Some (own.Single (sort_of ty))) ∷ []
   own_by known (kinds.Node name value) = (name, option_map own.Single (sort_in known value)) ∷ []
@@ -297,7 +297,7 @@ module _ (roles : List (Reference × Role)) (traced : List ℕ → Bool) where
   own_by known (kinds.Stop clock condition code label) = []
   own_by known (kinds.Report word arguments label) = []
 
-  -- what is known after some statements
+  -- the names and types that are known after some statements
   abbrev pub known_after : List (List ℕ × Option Own) → List Stmt → List (List ℕ × Option Own)
   known_after known [] = known
   known_after known (s ∷ ss) = known_after (known ++ own_by known s.kind) ss

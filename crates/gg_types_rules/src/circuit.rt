@@ -22,7 +22,7 @@ use gg_shape_names::{NamesFault, Namespace};
 use gg_types::{Own, Typed};
 use std::alloc::{AllocError, Global};
 
-/// What `types` returns in place of Ok.
+/// The error of `types` and `typed`.
 pub type TypeFault = CheckFault;
 
 /// Checks a circuit for the faults F9 to F14, and returns it with its names' types. The circuit must have none of the

@@ -51,35 +51,35 @@ abbrev pub with_number : Result ℕ Text → (ℕ → Result Cmd Text) → Resul
 with_number (Ok n) next = next n
 with_number (Err value) next = Err value
 
--- what is found in the words of `run`: the command, or its first value that isn't a number in its range
+-- the command of the words of `run`, or its first value that isn't a number in its range
 abbrev pub run_of : List Row → Result Cmd Text
 run_of rows = with_number (capacity_of rows) (λ capacity. with_number (workers_of rows) (λ workers.
     Ok (Run (text_of (codes "circuit") rows) (text_of (codes "partition") rows) (text_of (codes "trace") rows)
     capacity workers (is_set (codes "mono") rows))))
 
--- what is found in the words of `replay`
+-- the command of the words of `replay`, or its first such value
 abbrev pub replay_of : List Row → Result Cmd Text
 replay_of rows = with_number (capacity_of rows) (λ capacity.
     Ok (Replay (text_of (codes "circuit") rows) (text_of (codes "partition") rows) (text_of (codes "trace") rows)
     (text_of (codes "steps") rows) capacity))
 
--- what is found in the words of `check`
+-- the command of the words of `check`, or its first such value
 abbrev pub check_of : List Row → Result Cmd Text
 check_of rows = with_number (capacity_of rows) (λ capacity.
     Ok (Check (text_of (codes "circuit") rows) (text_of (codes "partition") rows) capacity))
 
--- what is found in the words of `demo`
+-- the command of the words of `demo`, or its first such value
 abbrev pub demo_of : List Row → Result Cmd Text
 demo_of rows = with_number (seed_of rows) (λ seed. with_number (size_of rows) (λ size. with_number (workers_of rows) (λ workers.
     Ok (Demo seed size workers))))
 
--- what is found in the words of `save`
+-- the command of the words of `save`, or its first such value
 abbrev pub save_of : List Row → Result Cmd Text
 save_of rows = with_number (at_of rows) (λ at. with_number (capacity_of rows) (λ capacity. with_number (workers_of rows) (λ workers.
     Ok (Save (text_of (codes "circuit") rows) (text_of (codes "partition") rows) (text_of (codes "trace") rows)
     at capacity workers))))
 
--- what is found in the words of `resume`
+-- the command of the words of `resume`, or its first such value
 abbrev pub resume_of : List Row → Result Cmd Text
 resume_of rows = with_number (capacity_of rows) (λ capacity. with_number (workers_of rows) (λ workers.
     Ok (Resume (text_of (codes "circuit") rows) (text_of (codes "partition") rows) (text_of (codes "trace") rows)

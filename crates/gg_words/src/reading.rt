@@ -59,7 +59,7 @@ fn judged(alloc: Global, text: &str, least: u32, most: u32) -> Result<u32, WordF
     }
 }
 
-// The number that an option gives, if it is in its range, or the option's default.
+// The number of an option, if it is in its range, or the option's default.
 fn number_of(
     alloc: Global,
     matches: &ArgMatches<'_>,
@@ -76,7 +76,7 @@ fn number_of(
     }
 }
 
-// The number that a word gives, if it is in its range.
+// The number of a word, if it is in its range.
 fn number_at(
     alloc: Global,
     matches: &ArgMatches<'_>,
@@ -301,6 +301,16 @@ fn read_words(alloc: Global, words: &[String]) -> Result<Cmd, WordFault>
 /// Returns `Unexpected` with the word that makes `clap` refuse the words, also if it is a word for help. Returns
 /// `Refused` if `clap` refuses them for another reason. Otherwise returns `WrongNumber` with the first value, in the
 /// order SEED, SIZE, AT, K, W, that isn't a number in its range. Returns `NoMemory` if an allocation fails.
+///
+/// # Examples
+///
+/// ```rust
+/// // `given` has the words `golden`, `check`, `adder.fir`, `cut.json` and `--capacity=4`.
+/// let cmd = words(alloc, &given)?;
+/// // `cmd` is `Cmd::Check` with the circuit `adder.fir`, the partition `cut.json` and the capacity 4.
+/// ```
+///
+/// With `--capacity=0` the result is `WrongNumber` with `0`, because a capacity is at least 1.
 pub fn words(alloc: Global, words: &[String]) -> Result<Cmd, WordFault>
     // The result is the command that the words are.
     ensures command { IfOk result (IsCommand (texts words.now)) }

@@ -27,7 +27,7 @@ use Rattle.gg_elab_sites.specs.Meaning.{Signals, Bindings}
 
 -- ---- signals
 
--- what gives a signal its value, as it is kept
+-- the source of a signal's value, as it is kept
 abbrev pub cause_of : Origin → Cause
 cause_of origin.FromOutside = FromOutside
 cause_of origin.Connected = Connected
@@ -58,12 +58,12 @@ own_stop_of stop = record { name = stop.name; asked = record { clock = stop.cloc
 abbrev pub held_of : Instance → count.Held
 held_of instance = record { name = instance.name.now; number = instance.number }
 
--- what holds an instance, as it is kept; nothing for the top
+-- the site that holds an instance, as it is kept; none for the top
 abbrev pub outer_of : Option Around → Option count.Outer
 outer_of None = None
 outer_of (Some around) = Some (record { path = around.path; number = around.number; name = around.name.now })
 
--- a step from an instance to what holds it, as it is kept
+-- a step from an instance to the site that holds it, as it is kept
 abbrev pub step_of : kept_step.Step → count.Step
 step_of step = record { number = step.number; name = step.name.now }
 
@@ -71,7 +71,7 @@ step_of step = record { number = step.number; name = step.name.now }
 abbrev pub site_of : Place → count.Site
 site_of place = record { path = place.path; number = place.number; depth = place.depth; outer = outer_of place.outer; steps = map step_of place.steps.items }
 
--- what is needed of a site for the instances that it holds
+-- the data of a site for the instances that it holds
 pub record IsAbove (place : Place) (above : Above) : Type 0 where
   pub path : above.path ≡ place.path
   pub number : above.number ≡ place.number
@@ -103,7 +103,7 @@ abbrev pub source_at : List Source → Option ℕ → Option Connection
 source_at sources None = None
 source_at sources (Some place) = option_map connection (slice_get sources place)
 
--- The table gives what each sink is connected to by these statements.
+-- The table has what each sink is connected to by these statements.
 abbrev pub TellsConnections : List Stmt → List (List ℕ) → List Source → Type 0
 TellsConnections statements names sources = (name : List ℕ) → source_at sources (place_of name names) ≡ connection_in statements name
 

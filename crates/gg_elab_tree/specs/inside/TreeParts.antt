@@ -38,7 +38,7 @@ pub record IsPortAt (paths : List (List ℕ)) (outer : List ℕ) (port : Port) (
 abbrev pub IsNumberAt : List (List ℕ) → List ℕ → OwnMemory → ℕ → Type 0
 IsNumberAt paths outer own number = IsAt paths (joined outer own.name.now) number
 
--- what holds an instance
+-- the number of the instance that holds an instance; none for the top
 abbrev pub IsHolder : List (List ℕ) → Option Around → Option ℕ → Type 0
 IsHolder paths None None = Unit {0}
 IsHolder paths None (Some parent) = ⊥
@@ -53,7 +53,7 @@ place_paths places = map (λ p. p.path) places
 abbrev pub signals_to : CircuitTree → List Place → ℕ → ℕ
 signals_to circuit places k = length (flat_map (signals_at (types_of circuit) circuit.modules) (map site_of (take k places)))
 
--- What is made for a site, by its parts.
+-- The instance that is made for a site, by its parts.
 pub record IsInstanceAt (paths signals memories : List (List ℕ)) (digest : Digest) (ports : List Port) (place : Place) (first end : ℕ) (made : Instance) : Type 0 where
   pub holder : IsHolder paths place.outer made.parent
   pub number : made.«module» ≡ place.number
@@ -63,7 +63,7 @@ pub record IsInstanceAt (paths signals memories : List (List ℕ)) (digest : Dig
   pub memories_are : Pairwise (IsNumberAt memories place.path) digest.memories.items made.memories
   pub clocks_are : made.clocks ≡ place.own_clocks.items
 
--- What is made for a memory of a module, by its parts.
+-- The memory that is made for a memory of a module, by its parts.
 pub record IsMemoryPart (paths memories : List (List ℕ)) (m : ModuleTree) (outer : List ℕ) (own : OwnMemory) (made : MemoryInstance) : Type 0 where
   pub holder : IsAt paths outer made.instance
   pub number : IsAt memories (joined outer own.name.now) made.memory
@@ -74,7 +74,7 @@ pub record IsMemoryPart (paths memories : List (List ℕ)) (m : ModuleTree) (out
 abbrev pub held_at_place : List ModuleTree → Place → OwnMemory → HeldMemory
 held_at_place modules place own = held_memory (site_of place) (flat_memory modules (site_of place) (own_bank_of own))
 
--- what is made is the tree's entry for this memory of this site
+-- the memory is the tree's entry for this memory of this site
 abbrev pub IsHeldFor : CircuitTree → HeldMemory → MemoryInstance → Type 0
 IsHeldFor circuit h memory = IsMemoryFor circuit h.site h.said memory
 
@@ -86,7 +86,7 @@ clock_kept m (Expressed value) = []
 clock_kept m (Kept clock reset) = clock_of m clock ∷ []
 clock_kept m (Answered memory port place latency) = []
 
--- What is made for a stop of a module, by its parts.
+-- The stop that is made for a stop of a module, by its parts.
 pub record IsStopPart (paths signals : List (List ℕ)) (m : ModuleTree) (outer : List ℕ) (own : kept_stop.OwnStop) (made : StopInstance) : Type 0 where
   pub holder : IsAt paths outer made.instance
   pub signal : IsAt signals (joined outer own.name) made.signal
@@ -96,7 +96,7 @@ pub record IsStopPart (paths signals : List (List ℕ)) (m : ModuleTree) (outer 
 abbrev pub stop_at_place : Place → kept_stop.OwnStop → HeldStop
 stop_at_place place own = held_stop (site_of place) (own_stop_of own)
 
--- what is made is the tree's entry for this stop of this site
+-- the stop is the tree's entry for this stop of this site
 abbrev pub IsAskedFor : CircuitTree → HeldStop → StopInstance → Type 0
 IsAskedFor circuit h stop = IsStopFor circuit h.site h.said stop
 

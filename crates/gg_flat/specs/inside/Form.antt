@@ -76,7 +76,7 @@ IsPartAt nodes i (Slice a ty high low) = (shape_at (shapes_of nodes) i ≡ shape
 
 -- ---- forms
 
--- what the last node does
+-- the operation of the last node
 abbrev pub last_op : List Node → Op
 last_op nodes = op_at nodes (length nodes - 1)
 

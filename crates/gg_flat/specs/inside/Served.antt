@@ -26,7 +26,7 @@ SomeNames (access ∷ accesses) s = AccessNames access s ⊎ SomeNames accesses 
 abbrev pub MemoryNames : Memory → ℕ → Type 0
 MemoryNames memory s = SomeNames (due_list memory) s
 
--- what a memory holds after the first j accesses of its due list
+-- the contents of a memory after the first j accesses of its due list
 abbrev pub after_accesses : List Bool → List ℕ → Memory → Bank → ℕ → Bank
 after_accesses edges signals memory bank j = fold (after_access edges signals) bank (take j (due_list memory))
 

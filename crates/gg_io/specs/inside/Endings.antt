@@ -27,8 +27,8 @@ abbrev pub said_by : {T : Type 0} → Result T Ending → Said
 said_by (Ok done) = nothing
 said_by (Err ending) = said_of ending
 
--- What was written on an output by the writing of a text: all of the text, or a first part if the writing stopped.
--- `failed` means that a put failed. Once the text is being written nothing is refused.
+-- The part of a text that was written on an output: all of the text, or a first part if the writing stopped. `failed` means that a put
+-- failed. Once the text is being written nothing is refused.
 abbrev pub Prints : {T : Type 0} → (before now : Option (List ℕ)) (failed : Type 0) (text : List ℕ) → Result T Ending → Type 0
 Prints before now failed text (Ok done) = now ≡ append_known before text
 Prints before now failed text (Err (Refused said)) = ⊥

@@ -1,4 +1,4 @@
--- What one step over a line gives: the first token, and the bytes after it.
+-- One step over a line: the first token, and the bytes after it.
 -- Source: FIRRTL Specification, "Notes on Syntax".
 use Rattle.std.specs.Prelude.{◌≡◌, ℕ, ◌+◌, List, take, drop, length, Option, Some, None}
 use Rattle.gg_lex.specs.Tokens.{IsFirst}

@@ -1,4 +1,5 @@
--- What a driver gives, and what a register, a memory and an access leave, depend only on the signals that they name.
+-- The value of a driver, the next value of a register, and the contents of a memory after a tick or an access depend only on the signals
+-- that they name.
 -- Source: FIRRTL Specification, "Connects", "Registers", "Memories".
 use Rattle.std.specs.Prelude.{◌≡◌, ℕ, List, Bool}
 use Rattle.gg_bits.specs.Shape.{Shape}
@@ -22,7 +23,7 @@ DriverNeedsItsNames =
     -- By both the driver has the same value.
     → driver_value state inputs v sink driver ≡ driver_value state inputs w sink driver
 
--- What a register becomes depends only on the signals that the register names.
+-- The next value of a register depends only on the signals that the register names.
 abbrev pub RegisterNeedsItsNames : Type 0
 RegisterNeedsItsNames =
     (edges : List Bool) (v w : List ℕ) (register : Register) (own : ℕ)
@@ -31,20 +32,20 @@ RegisterNeedsItsNames =
     -- By both the register has the same value next.
     → next_register edges v register own ≡ next_register edges w register own
 
--- What a memory becomes depends only on the signals that the memory names.
+-- The contents of a memory after a tick depend only on the signals that the memory names.
 abbrev pub MemoryNeedsItsNames : Type 0
 MemoryNeedsItsNames =
     (edges : List Bool) (v w : List ℕ) (memory : Memory) (bank : Bank)
     -- Two lists of values agree on the signals that the memory names.
     → ((s : ℕ) → MemoryNames memory s → value_at v s ≡ value_at w s)
-    -- By both the memory holds the same next.
+    -- By both the memory has the same contents after the tick.
     → next_bank edges v memory bank ≡ next_bank edges w memory bank
 
--- What an access leaves depends only on the signals that the access names.
+-- The contents of a memory after an access depend only on the signals that the access names.
 abbrev pub AccessNeedsItsNames : Type 0
 AccessNeedsItsNames =
     (edges : List Bool) (v w : List ℕ) (bank : Bank) (access : Access)
     -- Two lists of values agree on the signals that the access names.
     → ((s : ℕ) → AccessNames access s → value_at v s ≡ value_at w s)
-    -- By both the access leaves the same.
+    -- By both the memory has the same contents after the access.
     → after_access edges v bank access ≡ after_access edges w bank access

@@ -33,7 +33,7 @@ OpensOnce =
     -- They are the same.
     → rows ≡ others
 
--- What is computed along an order, cycle by cycle from a start, is a run.
+-- The rows that are computed along an order, cycle by cycle from a start, are a run.
 abbrev pub RunsAlong : Type 0
 RunsAlong =
     (circuit : FlatCircuit) (order : List ℕ) (start : Start) (columns : List (List ℕ)) (n : ℕ)

@@ -23,7 +23,7 @@ DependsOnReached =
     -- The signal depends on the in-signals at these places.
     → DependsOn circuit s places
 
--- What is computed along an order is settled.
+-- The row that is computed along an order is settled.
 abbrev pub SettlesAlong : Type 0
 SettlesAlong =
     (circuit : FlatCircuit) (order : List ℕ) (state : State) (inputs : List ℕ)

@@ -15,7 +15,7 @@ use Rattle.gg_order.specs.inside.NeedsMarks.{marks_of}
 abbrev pub MarksReached : FlatCircuit → ℕ → List Bool → Type 0
 MarksReached circuit out marks = (s : ℕ) → (is_marked marks s ≡ true) ↔ Reaches circuit out s
 
--- what a marked signal reads is marked
+-- each signal that a marked signal reads is marked
 abbrev pub IsClosed : FlatCircuit → List Bool → Type 0
 IsClosed circuit marks = (a b : ℕ) → is_marked marks a ≡ true → Reads circuit a b → is_marked marks b ≡ true
 
@@ -26,7 +26,7 @@ pub record IsWalk (circuit : FlatCircuit) (order : List ℕ) (out k : ℕ) (mark
   pub itself : is_marked marks out ≡ true
   pub closed : (j s : ℕ) → k ≤ j → j < length order → is_marked marks (value_at order j) ≡ true → Reads circuit (value_at order j) s → is_marked marks s ≡ true
 
--- What a signal reads is marked, if the signal itself was marked. No other mark changes.
+-- Each signal that a signal reads is marked, if the signal itself was marked. No other mark changes.
 pub record ReadsMarked (circuit : FlatCircuit) (signal : ℕ) (before after : List Bool) : Type 0 where
   pub kept : (s : ℕ) → is_marked before s ≡ true → is_marked after s ≡ true
   pub read : (s : ℕ) → is_marked before signal ≡ true → Reads circuit signal s → is_marked after s ≡ true

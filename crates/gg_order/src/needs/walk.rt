@@ -1,4 +1,4 @@
-//! What the out-signals of a group reach: one pass over the signals, from the last to the first.
+//! The signals that the out-signals of a group reach: one pass over the signals, from the last to the first.
 ghost use Rattle.std.specs.Prelude.{◌≡◌, ℕ, ◌<◌, ◌≤◌, length, replicate, IfOk, All};
 ghost use Rattle.gg_flat.specs.WellFormed.{IsWellFormed};
 ghost use Rattle.gg_flat.specs.InOrder.{IsInOrder};
@@ -28,7 +28,7 @@ fn no_marks(alloc: Global, count: usize) -> Result<Vec<u128>, AllocError>
     vec![in alloc; 0; count]
 }
 
-// Marks what the out-signals of a group reach. At first nothing is marked.
+// Marks the signals that the out-signals of a group reach. At first nothing is marked.
 fn mark_reached(marks: &mut [u128], piece: &Piece, group: &[u32])
     requires formed { IsWellFormed piece.now }
     requires ordered { IsInOrder piece.now }

@@ -1,4 +1,4 @@
-//! `Bank`: what a memory holds between two cycles.
+//! `Bank`: the contents of a memory between two cycles.
 ghost use Rattle.std.specs.Prelude.{◌≡◌, ℕ, ◌<◌, length, All, IfOk};
 ghost use Rattle.gg_bits.specs.Shape.{shape};
 ghost use Rattle.gg_flat.specs.declared.memory.Memory as memories;
@@ -13,7 +13,7 @@ use gg_flat::{Latency, Memory, Reader, UnderWrite, Writer};
 use std::alloc::{AllocError, Global};
 use std::marker::Model;
 
-/// What a memory holds before a cycle: its words, and a read register for each reader if the read latency is 1.
+/// The contents of a memory before a cycle: its words, and a read register for each reader if the read latency is 1.
 pub struct Bank {
     words: Vec<u128>,
     reads: Vec<u128>,
@@ -36,7 +36,7 @@ impl Model for Bank {
 }
 
 impl Bank {
-    /// What a memory holds before the first cycle: zeros.
+    /// The contents of a memory before the first cycle: zeros.
     ///
     /// # Errors
     ///
@@ -78,7 +78,7 @@ impl Bank {
         find_word(self.words(), addr, en)
     }
 
-    /// Advances to what the memory holds after a tick with these edges, if the signals have these values. Only the
+    /// Advances to the contents of the memory after a tick with these edges, if the signals have these values. Only the
     /// words that its writers name are written.
     ///
     /// The memory's fields are among these signals, and the bank is one of this memory.
@@ -102,9 +102,9 @@ impl Bank {
         }
     }
 
-    /// Advances to what the memory holds after one access by the late reader at this place, in a tick with these edges,
-    /// if the signals have these values. At an edge of its clock the reader's register takes the word that it finds.
-    /// The order of the accesses of a cycle is the memory's due list (`one_served`, `all_served`).
+    /// Advances to the contents of the memory after one access by the late reader at this place, in a tick with these
+    /// edges, if the signals have these values. At an edge of its clock the reader's register takes the word that it
+    /// finds. The order of the accesses of a cycle is the memory's due list (`one_served`, `all_served`).
     pub fn serve_reader(&mut self, place: usize, reader: &Reader, edges: &[bool], signals: &[u128])
         requires fields { LooksAmong (length signals.now) reader.now }
         requires place { place < length self.old.reads }
@@ -118,9 +118,9 @@ impl Bank {
         }
     }
 
-    /// Advances to what the memory holds after one access by a writer, in a tick with these edges, if the signals have
-    /// these values. At an edge of its clock the writer writes its word. Its place among the memory's writers makes no
-    /// difference.
+    /// Advances to the contents of the memory after one access by a writer, in a tick with these edges, if the signals
+    /// have these values. At an edge of its clock the writer writes its word. Its place among the memory's writers
+    /// makes no difference.
     pub fn serve_writer(&mut self, writer: &Writer, edges: &[bool], signals: &[u128])
         requires { WritesAmong (length signals.now) writer.now }
         ensures served { (place : ℕ) → self.new ≡ after_access edges.now signals.now self.old (ByWriter place writer.now) }

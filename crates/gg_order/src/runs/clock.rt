@@ -1,4 +1,4 @@
-//! What goes on in a tick: a register, or a port of a memory, follows one clock.
+//! Whether a register, or a port of a memory, goes on in a tick: each follows one clock.
 ghost use Rattle.std.specs.Prelude.{◌≡◌};
 ghost use Rattle.gg_flat.specs.Clock.{ticks};
 

@@ -35,12 +35,12 @@ pub fn no_loop()
     ensures { (circuit : FlatCircuit) (order loop : List ℕ) → IsOrder circuit order → ¬ IsLoop circuit loop }
 {}
 
-/// What is computed along an order is settled. With `settled_once`: a state and inputs have exactly one settled row.
+/// The row computed along an order is settled. With `settled_once`: a state and inputs have exactly one settled row.
 pub fn settles_along()
     ensures { SettlesAlong }
 {}
 
-/// What is computed along an order is a run. With `run_once`: columns have exactly one run of each length from each
+/// The rows computed along an order are a run. With `run_once`: columns have exactly one run of each length from each
 /// start. The opening is such a start.
 pub fn runs_along()
     ensures from { RunsAlong }
@@ -59,7 +59,8 @@ pub fn runs_on()
     ensures { RunsJoin }
 {}
 
-/// A memory that has served all accesses of its due list, one after another, holds what it holds after the cycle.
+/// The contents of a memory that has served all accesses of its due list, one after another, are its contents after the
+/// cycle.
 pub fn all_served()
     ensures { (edges : List Bool) (signals : List ℕ) (memory : Memory) (bank : Bank) → IsBank memory bank
         → after_accesses edges signals memory bank (length (due_list memory)) ≡ next_bank edges signals memory bank }
@@ -73,8 +74,8 @@ pub fn one_served()
     ensures typed { AccessKeepsBank }
 {}
 
-/// A driver's value, and what a register and a memory become, depend only on the signals that they name. Two lists of
-/// values that agree on these give the same.
+/// A driver's value, a register's next value and a memory's next contents depend only on the signals that they name.
+/// Two lists of values that agree on these give the same.
 pub fn values_agree()
     ensures drivers { DriverNeedsItsNames }
     ensures registers { RegisterNeedsItsNames }

@@ -14,7 +14,7 @@ use crate::runs::values::driver_value;
 use gg_flat::Piece;
 
 impl State {
-    /// The value that a signal's driver gives it, in this state and with these inputs, if the signals have these values.
+    /// The value of a signal by its driver, in this state and with these inputs, if the signals have these values.
     ///
     /// The piece is well formed. State, inputs and values have its counts and types, inputs in port order, values by
     /// the signals' numbers. The scratch space has room for its lines (`scratch_of`).

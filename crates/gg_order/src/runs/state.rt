@@ -18,7 +18,7 @@ use gg_flat::{Memory, Piece, Register};
 use std::alloc::{AllocError, Global};
 use std::marker::Model;
 
-/// The values of a circuit's registers before a cycle, and what each of its memories holds.
+/// The values of a circuit's registers before a cycle, and the contents of each of its memories.
 pub struct State {
     registers: Vec<u128>,
     banks: Vec<Bank>,
@@ -69,14 +69,14 @@ impl State {
         self.registers.as_slice()
     }
 
-    /// What the memories hold.
+    /// The contents of the memories.
     pub fn banks(&self) -> &[Bank]
         ensures { result.now ≡ self.now.banks }
     {
         self.banks.as_slice()
     }
 
-    /// What the memory at this place holds, to be changed. The rest stays as it is.
+    /// The contents of the memory at this place, to be changed. The rest stays as it is.
     pub fn bank_mut(&mut self, place: usize) -> &mut Bank
         requires { place < length self.old.banks }
         ensures* writes_back { sem 𝓛 (LendsBank self.entry place result) }
@@ -109,7 +109,7 @@ impl State {
     }
 }
 
-// What memories hold before the first cycle.
+// The contents of memories before the first cycle.
 fn opening_banks(alloc: Global, memories: &[Memory]) -> Result<Vec<Bank>, AllocError>
     ensures { IfOk result (λ banks. banks.items ≡ map (λ memory. opening_bank memory) memories.now) }
 {
@@ -120,7 +120,7 @@ fn opening_banks(alloc: Global, memories: &[Memory]) -> Result<Vec<Bank>, AllocE
     Ok(banks)
 }
 
-// Replaces what each memory holds by what it holds after the tick.
+// Replaces the contents of each memory by its contents after the tick.
 fn advance_banks(memories: &[Memory], banks: &mut [Bank], edges: &[bool], signals: &[u128])
     requires memories { All (IsMemory (HasValue signals.now)) memories.now }
     requires banks { AreBanks memories.now banks.old }

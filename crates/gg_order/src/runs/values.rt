@@ -13,8 +13,8 @@ use crate::runs::state::State;
 use gg_bits::Ty;
 use gg_flat::{Driver, Register};
 
-/// The value that a driver gives to a signal of type `sink`, in this state and with these inputs, if the signals
-/// that it names have these values. The scratch space has room for the nodes of its line.
+/// The value of a driver for a signal of type `sink`, in this state and with these inputs, if the signals that it names
+/// have these values. The scratch space has room for the nodes of its line.
 pub fn driver_value(
     driver: &Driver,
     sink: Ty,

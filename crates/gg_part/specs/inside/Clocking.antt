@@ -14,7 +14,7 @@ use Rattle.gg_part.specs.Building.{IsHeldIn}
 abbrev pub clocks_of_ports : Memory → List (Option ℕ)
 clocks_of_ports memory = map (λ reader. reader.clock) memory.readers ++ map (λ writer. writer.clock) memory.writers
 
--- What follows clock `own` of a part, if any, follows by it clock `there` of the whole circuit.
+-- Clock `own` of a part, if any, follows clock `there` of the whole circuit.
 pub record LeadsTo (clocks : List (Option ℕ)) (there own : Option ℕ) : Type 0 where
   pub known : IsClock (length clocks) own
   pub leads : clock_at clocks own ≡ there

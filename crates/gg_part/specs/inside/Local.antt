@@ -1,4 +1,4 @@
--- What a part has, under the part's own numbers, with a clock of the part for each port.
+-- The memories of a part, under the part's own numbers, with a clock of the part for each port.
 -- Source: this program's own.
 use Rattle.std.specs.Prelude.{ℕ, List, Option, None, length, slice_index_or}
 use Rattle.gg_bits.specs.Lists.{by_number}

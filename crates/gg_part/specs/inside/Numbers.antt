@@ -1,5 +1,5 @@
--- A list of numbers with a table that gives the place of each.
--- Source: this program's own: a table from a number of the whole circuit to the number that a part gives it.
+-- A list of numbers with a table of their places.
+-- Source: this program's own: a table from a number of the whole circuit to its number in the part.
 use Rattle.std.specs.Prelude.{◌≡◌, ℕ, ◌<◌, List, length}
 use Rattle.gg_flat.specs.Line.{value_at}
 

@@ -419,7 +419,7 @@ read_under_write_at ts =
 abbrev pub last_read_under_write_at : List Tok → Option ReadUnderWrite
 last_read_under_write_at ts = read_under_write_at ts >>= λ w. end_at w.1 >>= λ u. Some w.0
 
--- what a memory's field says, after its word and `=>`
+-- the memory's field with this word, by the tokens after `=>`
 abbrev pub field_at : FieldWord → List Tok → Option MemoryField
 field_at field_word.DataType ts = last_type_at ts >>= λ ty. Some (field.DataType ty)
 field_at field_word.Depth ts = last_natural_at ts >>= λ n. Some (field.Depth n)

@@ -1,4 +1,4 @@
--- What a simulator keeps between two cycles.
+-- The data of a simulator between two cycles.
 use Rattle.std.specs.Prelude.{◌≡◌, ℕ}
 use Rattle.gg_flat.specs.Line.{AreTyped}
 use Rattle.gg_flat.specs.Circuit.{signal_shapes}

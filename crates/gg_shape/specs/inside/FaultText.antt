@@ -6,7 +6,7 @@ use Rattle.gg_shape.specs.FaultText.{fault_text}
 
 -- ---- faults
 
--- what a check returns in place of Ok
+-- the text of a check's error
 abbrev pub refusal_text : CheckFault → List ℕ
 refusal_text (refusals.F fault) = fault_text fault
 refusal_text refusals.NoMemory = codes "out of memory"

@@ -53,7 +53,7 @@ pub record ArePlaces (ports : List Port) (places : List ℕ) : Type 0 where
 pub record AreCells (ports : List Port) (places : List ℕ) (cells : List (List ℕ)) (n : ℕ) : Type 0 where
   pub each : (g : ℕ) → g < n → IsCell (width_at ports (slice_index places g)) (field cells g)
 
--- the first n cells give these values, each value at its port's place
+-- the first n cells are these values, each at its port's place
 pub record AreValues (places : List ℕ) (cells : List (List ℕ)) (values : List ℕ) (n : ℕ) : Type 0 where
   pub each : (g : ℕ) → g < n → slice_index values (slice_index places g) ≡ hexadecimal (field cells g)
 
@@ -91,7 +91,7 @@ pub record PassesCycle (places : List ℕ) (row : ℕ) (line : List (List ℕ)) 
   pub count : length line ≡ length places + 1
   pub is : field line 0 ≡ decimal row
 
--- the row gives these values
+-- the row has these values
 pub record ReadsRow (ports : List Port) (places : List ℕ) (row : ℕ) (line : List (List ℕ)) (values : List ℕ) : Type 0 where
   pub passes : PassesCycle places row line
   pub cells : AreCells ports places (drop 1 line) (length places)
