@@ -35,16 +35,16 @@ judged-map f g (Wants ends none) = Wants ends none
 -- These loads go on with those: the files are the same, and what failed there failed here.
 pub record GoOn (whole rest : Loads) : Type 0 where
   pub files : rest.files ≡ whole.files
-  pub lost : rest.lost → whole.lost
-  pub cut : rest.cut → whole.cut
+  pub lost : (name : List ℕ) → rest.lost name → whole.lost name
+  pub cut : (name : List ℕ) → rest.cut name → whole.cut name
 
 -- the loads of a shelf since an earlier moment
 pub loads-on : {S : Type 0} {shelf : Shelf.Ghosts S} {s s' : S} (s'' : S) → ShelfWentOn shelf s s' → GoOn (loads_of shelf s s'') (loads_of shelf s' s'')
-loads-on s'' on = record { files = on.files_stay; lost = rose-earlier _ _ _ on.faults_stay_or_rise; cut = rose-earlier _ _ _ on.cuts_stay_or_rise }
+loads-on s'' on = record { files = on.files_stay; lost = λ name. rose-earlier _ _ _ (on.faults_stay_or_rise name); cut = λ name. rose-earlier _ _ _ (on.cuts_stay_or_rise name) }
 
 -- the same loads
 pub loads-same : {loads : Loads} → GoOn loads loads
-loads-same = record { files = refl; lost = λ x. x; cut = λ x. x }
+loads-same = record { files = refl; lost = λ name x. x; cut = λ name x. x }
 
 module _ {whole rest : Loads} (on : GoOn whole rest) where
   -- what a file can hold later, it could hold before

@@ -2,7 +2,7 @@
 use Rattle.std.proofs.Common.{◌≡◌, ℕ, List, [], ◌∙◌, inl, inr, arith, ◌⊎◌}
 use Rattle.gg_io.specs.Said.{Said}
 use Rattle.gg_io.specs.Order.{Order, StopsAt, IsWritten, DueAt, IsDueAccepted, IsExact, IsJudgement}
-use Rattle.gg_io.specs.Ends.{Ends, Refused, Done, Unwritten, WantsMemory, Loads}
+use Rattle.gg_io.specs.Ends.{Ends, Refused, Done, Unwritten, WantsMemory, Loads, NoneLost}
 use Rattle.gg_io.proofs.OrderLemmas.{stops-due, written-due, stops-accepted}
 
 -- no other status is one of a judgement
@@ -66,7 +66,7 @@ module _ (loads : Loads) (unwritten : Type 0) where
   abbrev pub SaysDue : (status : ℕ) (line : List ℕ) → Order → Said → Type 0
   SaysDue status line order due = ((status ≡ due.status) × ((said : Said) × DueAt loads.files order said × (status ≡ said.status) × (line ≡ said.line))) ⊎ (status ≡ 5)
 
-  pub due-ends : (status : ℕ) (text line : List ℕ) (order : Order) (due : Said) → IsExact order → DueAt loads.files order due → (loads.lost → ⊥) → WhyEnds order status text line
+  pub due-ends : (status : ℕ) (text line : List ℕ) (order : Order) (due : Said) → IsExact order → DueAt loads.files order due → NoneLost loads → WhyEnds order status text line
       → SaysDue status line order due
   due-ends status text line order due exact d none (Stopped said stops is tells nothing) =
       let same = stops-due loads.files loads.lost loads.cut order due said exact none d stops in
@@ -75,7 +75,7 @@ module _ (loads : Loads) (unwritten : Type 0) where
   due-ends status text line order due exact d none (Failed failed whole written is) = absurd (written-due loads.files order due whole exact d written)
   due-ends status text line order due exact d none (Wanted is) = inr is
 
-  pub complete-ends : (status : ℕ) (text line : List ℕ) (order : Order) → IsExact order → IsDueAccepted loads.files order → (loads.lost → ⊥) → (unwritten → ⊥)
+  pub complete-ends : (status : ℕ) (text line : List ℕ) (order : Order) → IsExact order → IsDueAccepted loads.files order → NoneLost loads → (unwritten → ⊥)
       → WhyEnds order status text line → (status ≡ 0) ⊎ (status ≡ 5)
   complete-ends status text line order exact d none wrote (Stopped said stops is tells nothing) = absurd (stops-accepted loads.files loads.lost loads.cut order said exact none d stops)
   complete-ends status text line order exact d none wrote (Wrote written is) = inl is

@@ -3,3 +3,4 @@ pub mod EndsLemmas
 pub mod OrderLemmas
 pub mod WritingLemmas
 mod WorkedEndings
+mod WorkedLoads

@@ -11,12 +11,16 @@ use Rattle.gg_io.specs.Order.{Order, StopsAt, IsWritten}
 
 -- ---- what happened outside
 
--- Files that were loaded: what is known of the file of each name, whether a load failed (`lost`), and whether a load was
+-- Files that were loaded: what is known of the file of each name, for which names a load failed (`lost`), and for which a load was
 -- cut at its limit (`cut`).
 pub record Loads : Type 1 where
   pub files : List ℕ → Told
-  pub lost : Type 0
-  pub cut : Type 0
+  pub lost : List ℕ → Type 0
+  pub cut : List ℕ → Type 0
+
+-- no load failed
+abbrev pub NoneLost : Loads → Type 0
+NoneLost loads = (name : List ℕ) → loads.lost name → ⊥
 
 -- An output that was put on: what was written there before and after, whether a put failed, and whether there was
 -- trouble: a put failed or returned `NoMemory`.
@@ -29,7 +33,11 @@ pub record Puts : Type 1 where
 -- what was loaded between these moments of a shelf
 abbrev pub loads_of : {S : Type 0} → Shelf.Ghosts S → (before now : S) → Loads
 loads_of shelf before now =
-    record { files = shelf.files before; lost = Rose (shelf.faults before) (shelf.faults now); cut = Rose (shelf.cuts before) (shelf.cuts now) }
+    record {
+      files = shelf.files before;
+      lost = λ name. Rose (shelf.faults before name) (shelf.faults now name);
+      cut = λ name. Rose (shelf.cuts before name) (shelf.cuts now name);
+    }
 
 -- what was put between these moments of an output
 abbrev pub puts_of : {K : Type 0} → Sink.Ghosts K → (before now : K) → Puts

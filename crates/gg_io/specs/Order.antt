@@ -49,7 +49,7 @@ IsUnique (Load file next) = IsUniqueFile file × ((bytes : List ℕ) → IsUniqu
 IsUnique (Write IsText) = Unit {0}
 
 -- What is reported for the load of a file of this name that may have at most `limit` bytes. `told` is what is known of the file. `lost`
--- means that a load failed, and `cut` that a load was cut at its limit.
+-- means that a load of it failed, and `cut` that a load of it was cut at its limit.
 abbrev pub LoadReports : (told : Told) (lost cut : Type 0) (name : List ℕ) (limit : ℕ) → Said → Type 0
 LoadReports told lost cut name limit said =
     -- The load failed.
@@ -57,7 +57,11 @@ LoadReports told lost cut name limit said =
     -- Or it was cut, and the file can be longer.
     ⊎ (cut × CanBeOver told limit × (said ≡ is_over name limit))
 
--- `files` has what is known of the file of each name. `lost` means that a load failed, and `cut` that a load was cut at
+-- holds of no file's name
+abbrev pub OfNone : List ℕ → Type 0
+OfNone name = ⊥
+
+-- `files` has what is known of the file of each name. `lost` says of which names a load failed, and `cut` of which a load was cut at
 -- its limit.
 module _ (files : List ℕ → Told) where
   -- these can be the bytes of the file, and they are within its limit
@@ -66,17 +70,17 @@ module _ (files : List ℕ → Told) where
     pub within : length bytes ≤ file.limit
 
   -- this is reported for the load of the file: it failed, or the file is too long
-  abbrev pub LoadSays : (lost cut : Type 0) → File → Said → Type 0
-  LoadSays lost cut file = LoadReports (files file.name) lost cut file.name file.limit
+  abbrev pub LoadSays : (lost cut : List ℕ → Type 0) → File → Said → Type 0
+  LoadSays lost cut file = LoadReports (files file.name) (lost file.name) (cut file.name) file.name file.limit
 
   -- this is reported for the file: for its load, or for its bytes
-  abbrev pub IsRefused : (lost cut : Type 0) → File → Said → Type 0
+  abbrev pub IsRefused : (lost cut : List ℕ → Type 0) → File → Said → Type 0
   IsRefused lost cut file said =
       LoadSays lost cut file said
       ⊎ ((bytes : List ℕ) × CanBe file bytes × file.refuses bytes said)
 
   -- Some file is refused with this report, and each file before it is accepted.
-  abbrev pub StopsAt : (lost cut : Type 0) → Order → Said → Type 0
+  abbrev pub StopsAt : (lost cut : List ℕ → Type 0) → Order → Said → Type 0
   StopsAt lost cut (Load file next) said =
       IsRefused lost cut file said
       ⊎ ((bytes : List ℕ) × CanBe file bytes × file.accepts bytes × StopsAt lost cut (next bytes) said)

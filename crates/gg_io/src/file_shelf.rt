@@ -107,17 +107,17 @@ fn load_from<R: Files>(
 impl<R: Files + Drop> Shelf for FileShelf<R> {
     ghost files = { λ _ _. Untold };
 
-    ghost faults = { λ s. s.faults };
+    ghost faults = { λ s _. s.faults };
 
-    ghost cuts = { λ s. s.cuts };
+    ghost cuts = { λ s _. s.cuts };
 
     /// The faults rise at each `Failed`, the cut loads at each `TooLong`.
     fn load(&mut self, alloc: Global, name: &str, limit: u64) -> Result<Vec<u8>, LoadFail>
         ensures within { IfOk result (λ file. length file.items ≤ limit) }
         ensures caused { IfErr result (HasLoadCause Untold limit
             self.old.faults self.new.faults self.old.cuts self.new.cuts) }
-        ensures faults_stay_or_rise { self.old.faults ≤ self.new.faults }
-        ensures cuts_stay_or_rise { self.old.cuts ≤ self.new.cuts }
+        ensures faults_stay_or_rise { List ℕ → self.old.faults ≤ self.new.faults }
+        ensures cuts_stay_or_rise { List ℕ → self.old.cuts ≤ self.new.cuts }
 
         ensures faults { self.new.faults ≡ faults_after_load result self.old.faults }
         ensures cuts { self.new.cuts ≡ cuts_after_load result self.old.cuts }

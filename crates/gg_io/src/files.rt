@@ -37,11 +37,11 @@ pub trait Shelf {
     // What is known of the file of a name. The name is given by its bytes.
     ghost files: { Self → List ℕ → Told };
 
-    // How many loads failed.
-    ghost faults: { Self → ℕ };
+    // A count for each name. It rises when a load of the file of this name fails.
+    ghost faults: { Self → List ℕ → ℕ };
 
-    // How many loads found a file longer than the limit.
-    ghost cuts: { Self → ℕ };
+    // The same for a load that finds a file longer than the limit.
+    ghost cuts: { Self → List ℕ → ℕ };
 
     /// Returns the bytes of the file `name`, at most `limit` of them. A missing file is a fault. In every case the
     /// shelf's files stay the same, and only its counts may rise.
@@ -54,8 +54,8 @@ pub trait Shelf {
         ensures within { IfOk result (λ file. length file.items ≤ limit) }
         ensures whole { IfOk result (λ file. CanHold (files self.old name.now) file.items) }
         ensures caused { IfErr result (HasLoadCause (files self.old name.now) limit
-            (faults self.old) (faults self.new) (cuts self.old) (cuts self.new)) }
+            (faults self.old name.now) (faults self.new name.now) (cuts self.old name.now) (cuts self.new name.now)) }
         ensures files_stay { files self.new ≡ files self.old }
-        ensures faults_stay_or_rise { faults self.old ≤ faults self.new }
-        ensures cuts_stay_or_rise { cuts self.old ≤ cuts self.new };
+        ensures faults_stay_or_rise { (other : List ℕ) → faults self.old other ≤ faults self.new other }
+        ensures cuts_stay_or_rise { (other : List ℕ) → cuts self.old other ≤ cuts self.new other };
 }

@@ -26,7 +26,8 @@ pub fn load<S: Shelf>(
     ensures within { IfOk result (λ bytes. length bytes.items ≤ limit) }
     ensures held { IfOk result (λ bytes. CanHold (S.files shelf.old name.now) bytes.items) }
     ensures refused { IfErr result (IfRefused (LoadReports (S.files shelf.old name.now)
-        (Rose (S.faults shelf.old) (S.faults shelf.new)) (Rose (S.cuts shelf.old) (S.cuts shelf.new)) name.now limit)) }
+        (Rose (S.faults shelf.old name.now) (S.faults shelf.new name.now)) (Rose (S.cuts shelf.old name.now) (S.cuts shelf.new name.now))
+        name.now limit)) }
     ensures shelf { ShelfWentOn S.Shelf shelf.old shelf.new }
 {
     match shelf.load(alloc, name, limit) {

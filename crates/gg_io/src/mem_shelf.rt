@@ -1,5 +1,5 @@
 //! Shelves in memory.
-ghost use Rattle.std.specs.Prelude.{◌≡◌, ◌-◌, ◌^◌, ◌<◌, ◌≤◌, ◌↔◌, ◌⊎◌, length, IfOk, IfErr, IsErrOf, Contains};
+ghost use Rattle.std.specs.Prelude.{◌≡◌, ℕ, ◌-◌, ◌^◌, ◌<◌, ◌≤◌, ◌↔◌, ◌⊎◌, List, length, IfOk, IfErr, IsErrOf, Contains};
 ghost use Rattle.gg_io.specs.Count.{risen};
 ghost use Rattle.gg_io.specs.Told.{CanHold, Missing, Holds};
 ghost use Rattle.gg_io.specs.LoadFail.{HasLoadCause};
@@ -72,9 +72,9 @@ fn copy_within(alloc: Global, bytes: &[u8], limit: u64, cuts: &mut u64) -> Resul
 impl Shelf for MemShelf {
     ghost files = { λ s name. told_of (bytes_under s.files name) };
 
-    ghost faults = { λ s. s.faults };
+    ghost faults = { λ s _. s.faults };
 
-    ghost cuts = { λ s. s.cuts };
+    ghost cuts = { λ s _. s.cuts };
 
     /// Fails exactly if the load's number is listed or there is no such file.
     fn load(&mut self, alloc: Global, name: &str, limit: u64) -> Result<Vec<u8>, LoadFail>
@@ -82,8 +82,8 @@ impl Shelf for MemShelf {
         ensures whole { IfOk result (λ file. CanHold (told_of (bytes_under self.old.files name.now)) file.items) }
         ensures caused { IfErr result (HasLoadCause (told_of (bytes_under self.old.files name.now)) limit
             self.old.faults self.new.faults self.old.cuts self.new.cuts) }
-        ensures faults_stay_or_rise { self.old.faults ≤ self.new.faults }
-        ensures cuts_stay_or_rise { self.old.cuts ≤ self.new.cuts }
+        ensures faults_stay_or_rise { List ℕ → self.old.faults ≤ self.new.faults }
+        ensures cuts_stay_or_rise { List ℕ → self.old.cuts ≤ self.new.cuts }
 
         ensures fails { IsErrOf result LoadFail.Failed
             ↔ (Contains self.old.failing.items self.old.loads ⊎ (told_of (bytes_under self.old.files name.now) ≡ Missing)) }
@@ -135,16 +135,16 @@ impl SureShelf {
 impl Shelf for SureShelf {
     ghost files = { λ s name. told_or_empty (bytes_under s.files name) };
 
-    ghost faults = { λ _. 0 };
+    ghost faults = { λ _ _. 0 };
 
-    ghost cuts = { λ s. s.cuts };
+    ghost cuts = { λ s _. s.cuts };
 
     fn load(&mut self, alloc: Global, name: &str, limit: u64) -> Result<Vec<u8>, LoadFail>
         ensures within { IfOk result (λ file. length file.items ≤ limit) }
         ensures whole { IfOk result (λ file. CanHold (told_or_empty (bytes_under self.old.files name.now)) file.items) }
         ensures caused { IfErr result (HasLoadCause (told_or_empty (bytes_under self.old.files name.now)) limit
             0 0 self.old.cuts self.new.cuts) }
-        ensures cuts_stay_or_rise { self.old.cuts ≤ self.new.cuts }
+        ensures cuts_stay_or_rise { List ℕ → self.old.cuts ≤ self.new.cuts }
 
         ensures cuts { self.new.cuts ≡ cuts_after_load result self.old.cuts }
         ensures files_stay { self.new.files ≡ self.old.files }

@@ -1,9 +1,9 @@
 -- The cause of each status of an outcome.
 use Rattle.std.proofs.Common.{◌≡◌, ◌≢◌, ℕ, List, [], refl, ap, sym, ◌∙◌, subst, inl, inr, arith, ◌⊎◌}
 use Rattle.std.specs.Prelude.{Result, Ok}
-use Rattle.gg_io.specs.Said.{Said}
-use Rattle.gg_io.specs.Order.{StopsAt, DueAt, IsDueAccepted, IsExact, IsJudgement}
-use Rattle.gg_io.specs.Ends.{Loads}
+use Rattle.gg_io.specs.Said.{Said, cannot_load}
+use Rattle.gg_io.specs.Order.{StopsAt, DueAt, IsDueAccepted, IsExact, IsJudgement, OfNone}
+use Rattle.gg_io.specs.Ends.{Loads, NoneLost}
 use Rattle.gg_io.specs.inside.Endings.{IfRefused}
 use Rattle.gg_io.specs.declared.endings.Ending.{Ending}
 use Rattle.gg_io.proofs.EndingLemmas.{IfRefused-map}
@@ -56,9 +56,9 @@ ExactOrders models = (command : Cmd) → IsExact (order_of models command)
 module _ (models : Models) (loads : Loads) (unwritten : Type 0) where
   -- The cause of each status.
   pub data Cause (words : List (List ℕ)) (status : ℕ) (text line : List ℕ) : Type 0 where
-    IsLost : (is : status ≡ 3) (rose : loads.lost) (none : text ≡ []) → Cause words status text line
-    IsCut : (is : status ≡ 8) (rose : loads.cut) (command : Cmd) (said : Said) (asks : IsCommand words command) (stops : StopsAt loads.files ⊥ loads.cut (order_of models command) said) (at : said.status ≡ 8) (tells : line ≡ said.line) (none : text ≡ []) → Cause words status text line
-    IsJudged : (judged : IsJudgement status) (command : Cmd) (said : Said) (asks : IsCommand words command) (stops : StopsAt loads.files ⊥ ⊥ (order_of models command) said) (is : status ≡ said.status) (tells : line ≡ said.line) (none : text ≡ []) → Cause words status text line
+    IsLost : (is : status ≡ 3) (name : List ℕ) (rose : loads.lost name) (tells : line ≡ (cannot_load name).line) (none : text ≡ []) → Cause words status text line
+    IsCut : (is : status ≡ 8) (name : List ℕ) (rose : loads.cut name) (command : Cmd) (said : Said) (asks : IsCommand words command) (stops : StopsAt loads.files OfNone loads.cut (order_of models command) said) (at : said.status ≡ 8) (tells : line ≡ said.line) (none : text ≡ []) → Cause words status text line
+    IsJudged : (judged : IsJudgement status) (command : Cmd) (said : Said) (asks : IsCommand words command) (stops : StopsAt loads.files OfNone OfNone (order_of models command) said) (is : status ≡ said.status) (tells : line ≡ said.line) (none : text ≡ []) → Cause words status text line
     IsNoCommand : (is : status ≡ 2) (unasked : ¬ AskForCommand words) (said : Said) (told : TellsUnasked words said) (tells : line ≡ said.line) (none : text ≡ []) → Cause words status text line
     IsDone : (is : status ≡ 0) → Cause words status text line
     IsUnwritten : (is : status ≡ 4) (failed : unwritten) → Cause words status text line
@@ -66,8 +66,8 @@ module _ (models : Models) (loads : Loads) (unwritten : Type 0) where
 
   cause-stopped : (words : List (List ℕ)) (status : ℕ) (text line : List ℕ) (command : Cmd) (said : Said) → IsCommand words command
       → status ≡ said.status → line ≡ said.line → text ≡ [] → Why loads.files loads.lost loads.cut (order_of models command) said → Cause words status text line
-  cause-stopped words status text line command said asks is tells none (Lost e rose) = IsLost (is ∙ e) rose none
-  cause-stopped words status text line command said asks is tells none (Cut e rose stops) = IsCut (is ∙ e) rose command said asks stops e tells none
+  cause-stopped words status text line command said asks is tells none (Lost name e rose) = IsLost (is ∙ ap (λ (s : Said). s.status) e) name rose (tells ∙ ap (λ (s : Said). s.line) e) none
+  cause-stopped words status text line command said asks is tells none (Cut e name rose stops) = IsCut (is ∙ e) name rose command said asks stops e tells none
   cause-stopped words status text line command said asks is tells none (Judged e stops) = IsJudged (subst IsJudgement (sym is) e) command said asks stops is tells none
 
   cause-ends : ExactOrders models → (words : List (List ℕ)) (status : ℕ) (text line : List ℕ) (command : Cmd) → IsCommand words command
@@ -84,19 +84,19 @@ module _ (models : Models) (loads : Loads) (unwritten : Type 0) where
   cause exact words status text line (WantsMemoryFirst says none) = IsWanting says.0
 
   module _ (words : List (List ℕ)) (status : ℕ) (text line : List ℕ) where
-    pub lost-3 : Cause words status text line → status ≡ 3 → loads.lost
-    lost-3 (IsLost is rose none) e = rose
-    lost-3 (IsCut is rose command said asks stops at tells none) e = absurd (omega arith)
+    pub lost-3 : Cause words status text line → status ≡ 3 → (name : List ℕ) × loads.lost name × (status ≡ (cannot_load name).status) × (line ≡ (cannot_load name).line)
+    lost-3 (IsLost is name rose tells none) e = (name, rose, is, tells)
+    lost-3 (IsCut is name rose command said asks stops at tells none) e = absurd (omega arith)
     lost-3 (IsJudged judged command said asks stops is tells none) e = absurd (unjudged-3 (subst IsJudgement e judged))
     lost-3 (IsNoCommand is unasked said told tells none) e = absurd (omega arith)
     lost-3 (IsDone is) e = absurd (omega arith)
     lost-3 (IsUnwritten is failed) e = absurd (omega arith)
     lost-3 (IsWanting is) e = absurd (omega arith)
 
-    pub cut-8 : Cause words status text line → status ≡ 8 → loads.cut
-        × ((command : Cmd) × IsCommand words command × ((said : Said) × StopsAt loads.files ⊥ loads.cut (order_of models command) said × (status ≡ said.status) × (line ≡ said.line)))
-    cut-8 (IsLost is rose none) e = absurd (omega arith)
-    cut-8 (IsCut is rose command said asks stops at tells none) e = (rose, (command, asks, (said, stops, e ∙ sym at, tells)))
+    pub cut-8 : Cause words status text line → status ≡ 8 → ((name : List ℕ) × loads.cut name)
+        × ((command : Cmd) × IsCommand words command × ((said : Said) × StopsAt loads.files OfNone loads.cut (order_of models command) said × (status ≡ said.status) × (line ≡ said.line)))
+    cut-8 (IsLost is name rose tells none) e = absurd (omega arith)
+    cut-8 (IsCut is name rose command said asks stops at tells none) e = ((name, rose), (command, asks, (said, stops, e ∙ sym at, tells)))
     cut-8 (IsJudged judged command said asks stops is tells none) e = absurd (unjudged-8 (subst IsJudgement e judged))
     cut-8 (IsNoCommand is unasked said told tells none) e = absurd (omega arith)
     cut-8 (IsDone is) e = absurd (omega arith)
@@ -104,8 +104,8 @@ module _ (models : Models) (loads : Loads) (unwritten : Type 0) where
     cut-8 (IsWanting is) e = absurd (omega arith)
 
     pub unwritten-4 : Cause words status text line → status ≡ 4 → unwritten
-    unwritten-4 (IsLost is rose none) e = absurd (omega arith)
-    unwritten-4 (IsCut is rose command said asks stops at tells none) e = absurd (omega arith)
+    unwritten-4 (IsLost is name rose tells none) e = absurd (omega arith)
+    unwritten-4 (IsCut is name rose command said asks stops at tells none) e = absurd (omega arith)
     unwritten-4 (IsJudged judged command said asks stops is tells none) e = absurd (unjudged-4 (subst IsJudgement e judged))
     unwritten-4 (IsNoCommand is unasked said told tells none) e = absurd (omega arith)
     unwritten-4 (IsDone is) e = absurd (omega arith)
@@ -113,9 +113,9 @@ module _ (models : Models) (loads : Loads) (unwritten : Type 0) where
     unwritten-4 (IsWanting is) e = absurd (omega arith)
 
     pub judged-file : Cause words status text line → IsJudgement status
-        → (command : Cmd) × IsCommand words command × ((said : Said) × StopsAt loads.files ⊥ ⊥ (order_of models command) said × (status ≡ said.status) × (line ≡ said.line))
-    judged-file (IsLost is rose none) j = absurd (unjudged-3 (subst IsJudgement is j))
-    judged-file (IsCut is rose command said asks stops at tells none) j = absurd (unjudged-8 (subst IsJudgement is j))
+        → (command : Cmd) × IsCommand words command × ((said : Said) × StopsAt loads.files OfNone OfNone (order_of models command) said × (status ≡ said.status) × (line ≡ said.line))
+    judged-file (IsLost is name rose tells none) j = absurd (unjudged-3 (subst IsJudgement is j))
+    judged-file (IsCut is name rose command said asks stops at tells none) j = absurd (unjudged-8 (subst IsJudgement is j))
     judged-file (IsJudged judged command said asks stops is tells none) j = (command, asks, (said, stops, is, tells))
     judged-file (IsNoCommand is unasked said told tells none) j = absurd (unjudged-2 (subst IsJudgement is j))
     judged-file (IsDone is) j = absurd (unjudged-0 (subst IsJudgement is j))
@@ -123,8 +123,8 @@ module _ (models : Models) (loads : Loads) (unwritten : Type 0) where
     judged-file (IsWanting is) j = absurd (unjudged-5 (subst IsJudgement is j))
 
     pub no_command-2 : Cause words status text line → status ≡ 2 → (¬ AskForCommand words) × ((said : Said) × TellsUnasked words said × (line ≡ said.line))
-    no_command-2 (IsLost is rose none) e = absurd (omega arith)
-    no_command-2 (IsCut is rose command said asks stops at tells none) e = absurd (omega arith)
+    no_command-2 (IsLost is name rose tells none) e = absurd (omega arith)
+    no_command-2 (IsCut is name rose command said asks stops at tells none) e = absurd (omega arith)
     no_command-2 (IsJudged judged command said asks stops is tells none) e = absurd (unjudged-2 (subst IsJudgement e judged))
     no_command-2 (IsNoCommand is unasked said told tells none) e = (unasked, (said, told, tells))
     no_command-2 (IsDone is) e = absurd (omega arith)
@@ -132,8 +132,8 @@ module _ (models : Models) (loads : Loads) (unwritten : Type 0) where
     no_command-2 (IsWanting is) e = absurd (omega arith)
 
     pub none-written : Cause words status text line → status ≢ 0 → status ≢ 4 → status ≢ 5 → text ≡ []
-    none-written (IsLost is rose none) a b c = none
-    none-written (IsCut is rose command said asks stops at tells none) a b c = none
+    none-written (IsLost is name rose tells none) a b c = none
+    none-written (IsCut is name rose command said asks stops at tells none) a b c = none
     none-written (IsJudged judged command said asks stops is tells none) a b c = none
     none-written (IsNoCommand is unasked said told tells none) a b c = none
     none-written (IsDone is) a b c = absurd (a is)
@@ -145,7 +145,7 @@ module _ (models : Models) (loads : Loads) (unwritten : Type 0) where
     unasked-2 (Unasked none said tells says nothing) unasked = inl (says.0 ∙ unasked-status words said tells)
     unasked-2 (WantsMemoryFirst says nothing) unasked = inr says.0
 
-    pub due-said : ExactOrders models → OneMeaning → Outcome models words loads unwritten status text line → (loads.lost → ⊥)
+    pub due-said : ExactOrders models → OneMeaning → Outcome models words loads unwritten status text line → NoneLost loads
         → (command : Cmd) (due : Said) → IsCommand words command → DueAt loads.files (order_of models command) due → SaysDue loads unwritten status line (order_of models command) due
     due-said exact once (Asked command asks ends) none other due others d =
         let same = asks-once once words other command others asks in
@@ -154,7 +154,7 @@ module _ (models : Models) (loads : Loads) (unwritten : Type 0) where
     due-said exact once (Unasked unasked said tells says nothing) none other due others d = absurd (unasked (other, others))
     due-said exact once (WantsMemoryFirst says nothing) none other due others d = inr says.0
 
-    pub complete-status : ExactOrders models → OneMeaning → Outcome models words loads unwritten status text line → (loads.lost → ⊥) → (unwritten → ⊥)
+    pub complete-status : ExactOrders models → OneMeaning → Outcome models words loads unwritten status text line → NoneLost loads → (unwritten → ⊥)
         → (command : Cmd) → IsCommand words command → IsDueAccepted loads.files (order_of models command) → (status ≡ 0) ⊎ (status ≡ 5)
     complete-status exact once (Asked command asks ends) none wrote other others d =
         let same = asks-once once words other command others asks in

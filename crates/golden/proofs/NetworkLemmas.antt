@@ -21,9 +21,9 @@ use Rattle.golden_commands.specs.Words.{AskForCommand, TellsUnasked}
 -- ---- a status of 0
 
 -- no file is refused with status 0
-pub refused-some : {files : List ℕ → Told} {lost cut : Type 0} {order : Order} {said : Said} → Why files lost cut order said → said.status ≡ 0 → ⊥
-refused-some (Lost status rose) e = omega (arith, status, e)
-refused-some (Cut status rose stops) e = omega (arith, status, e)
+pub refused-some : {files : List ℕ → Told} {lost cut : List ℕ → Type 0} {order : Order} {said : Said} → Why files lost cut order said → said.status ≡ 0 → ⊥
+refused-some (Lost name is rose) e = let status = ap (λ (said : Said). said.status) is in omega (arith, status, e)
+refused-some (Cut status name rose stops) e = omega (arith, status, e)
 refused-some (Judged status stops) e = unjudged-0 (subst IsJudgement e status)
 
 pub stopped-some : (loads : Loads) (order : Order) (ending : Ending) → IsExact order → IfRefused (StopsBy loads order) ending → (said_of ending).status ≡ 0 → ⊥

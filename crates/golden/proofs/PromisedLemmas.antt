@@ -15,9 +15,9 @@ use Rattle.gg_net.specs.markings.Goes as goes
 use Rattle.gg_order.specs.Design.{Ordered}
 use Rattle.gg_partfile.specs.Partition.{IsPartition}
 use Rattle.gg_partfile.specs.declared.request.Request.{Request}
-use Rattle.gg_io.specs.Said.{Said}
-use Rattle.gg_io.specs.Order.{Order, Load, Write, StopsAt, DueAt, IsDueAccepted, IsOnly, IsExact, IsExactFile, IsUnique, IsUniqueFile, IsJudgement}
-use Rattle.gg_io.specs.Ends.{Loads, Puts, Reports, Tells}
+use Rattle.gg_io.specs.Said.{Said, cannot_load}
+use Rattle.gg_io.specs.Order.{Order, Load, Write, StopsAt, DueAt, IsDueAccepted, IsOnly, IsExact, IsExactFile, IsUnique, IsUniqueFile, IsJudgement, OfNone}
+use Rattle.gg_io.specs.Ends.{Loads, NoneLost, Puts, Reports, Tells}
 use Rattle.gg_io.proofs.EndsLemmas.{SaysDue}
 use Rattle.gg_io.proofs.OrderLemmas.{IsOnlyDue, first-only, later-only}
 use Rattle.gg_io.proofs.WritingLemmas.{append_known-nil}
@@ -78,7 +78,12 @@ module _ {models : Models} {words : List (List ℕ)} {loads : Loads} {out err : 
         let why = no_command-2 models loads out.failed words status a.text a.line caused is in
         (why.0, (why.1.0, why.1.1, reported-as why.1.0 (is ∙ sym (unasked-status words why.1.0 why.1.1)) why.1.2))
 
-    over : status ≡ 8 → loads.cut × ((command : Cmd) × IsCommand words command × ((said : Said) × StopsAt loads.files ⊥ loads.cut (order_of models command) said × Tells err status said))
+    not_loaded : status ≡ 3 → (name : List ℕ) × loads.lost name × Tells err status (cannot_load name)
+    not_loaded is =
+        let why = lost-3 models loads out.failed words status a.text a.line caused is in
+        (why.0, why.1, reported-as (cannot_load why.0) why.2 why.3)
+
+    over : status ≡ 8 → ((name : List ℕ) × loads.cut name) × ((command : Cmd) × IsCommand words command × ((said : Said) × StopsAt loads.files OfNone loads.cut (order_of models command) said × Tells err status said))
     over is =
         let why = cut-8 models loads out.failed words status a.text a.line caused is in
         let file = why.1 in
@@ -106,7 +111,7 @@ module _ {models : Models} {words : List (List ℕ)} {loads : Loads} {out err : 
         (wrote.0, wrote.1, run-plain (to_run models) one c p t wrote.0 request is none always alone wrote.2.is)
 
     -- a run that goes on from a saved snapshot wrote the rest
-    resumed : OneMeaning → SavedIsAccepted models → ResumedIsTheRest models → (loads.lost → ⊥) → (out.failed → ⊥) → (circuit partition trace snap : List ℕ) (capacity workers : ℕ) (c p q t s whole : List ℕ) (one other : Request) (at : ℕ)
+    resumed : OneMeaning → SavedIsAccepted models → ResumedIsTheRest models → NoneLost loads → (out.failed → ⊥) → (circuit partition trace snap : List ℕ) (capacity workers : ℕ) (c p q t s whole : List ℕ) (one other : Request) (at : ℕ)
         → IsCommand words (Resume circuit partition trace snap capacity workers)
         → loads.files circuit ≡ Holds c → length c ≤ circuit_limit
         → loads.files partition ≡ Holds p → length p ≤ partition_limit → IsPartitionFor (to_save models) c p → IsPartition p one
@@ -265,7 +270,7 @@ module _ {models : Models} {words : List (List ℕ)} {loads : Loads} {out err : 
       resumed = resumed once accepted goes;
       judged = judged;
       no_command = no_command;
-      not_loaded = lost-3 models loads out.failed words status a.text a.line caused;
+      not_loaded = not_loaded;
       not_written = unwritten-4 models loads out.failed words status a.text a.line caused;
       over = over;
       nothing_written = nothing_written;

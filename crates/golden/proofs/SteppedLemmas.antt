@@ -102,7 +102,7 @@ pub load-other : {lost cut over : Type 0} {said : Said} (name : List ℕ) (limit
 load-other name limit (inl h) = other-of (cannot_load name) h.1 other-3
 load-other name limit (inr h) = other-of (is_over name limit) h.2 other-8
 
-file-other : (files : List ℕ → Told) (lost cut : Type 0) (file : File) (said : Said) → ((bytes : List ℕ) → file.refuses bytes said → IsOther said.status) → IsRefused files lost cut file said → IsOther said.status
+file-other : (files : List ℕ → Told) (lost cut : List ℕ → Type 0) (file : File) (said : Said) → ((bytes : List ℕ) → file.refuses bytes said → IsOther said.status) → IsRefused files lost cut file said → IsOther said.status
 file-other files lost cut file said judged (inl h) = load-other file.name file.limit h
 file-other files lost cut file said judged (inr h) = judged h.0 h.2
 

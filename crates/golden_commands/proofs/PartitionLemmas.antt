@@ -114,7 +114,7 @@ pub partition-can : {known : Known} {files : List ℕ → Told} {circuit : List 
 partition-can can = record { held = can.held; within = can.within }
 
 -- a partition that is refused for a design that some bytes mean is refused for these bytes
-pub partition-refused : {known : Known} (files : List ℕ → Told) {lost cut : Type 0} {circuit : List ℕ} {design : Ordered} {name : List ℕ} → MeansDesign circuit design
+pub partition-refused : {known : Known} (files : List ℕ → Told) {lost cut : List ℕ → Type 0} {circuit : List ℕ} {design : Ordered} {name : List ℕ} → MeansDesign circuit design
     → (said : Said) → IsRefused files lost cut (partition_file_of known design name) said → IsRefused files lost cut (partition_file_for known circuit name) said
 partition-refused files means said (inl load) = inl load
 partition-refused files {design = design} means said (inr (bytes, can, tells)) = inr (bytes, record { held = can.held; within = can.within }, (design, means, tells))

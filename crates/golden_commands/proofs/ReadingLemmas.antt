@@ -56,7 +56,7 @@ pub trace-can : {files : List ℕ → Told} {circuit partition : List ℕ} {name
 trace-can flat request can = record { held = can.held; within = can.within }
 
 -- a trace that is refused for a flat circuit and a request that some bytes mean is refused for these bytes
-pub trace-refused : (files : List ℕ → Told) {lost cut : Type 0} {circuit partition : List ℕ} {flat : FlatCircuit} {request : Request} {name : List ℕ} → Means circuit flat → IsPartition partition request
+pub trace-refused : (files : List ℕ → Told) {lost cut : List ℕ → Type 0} {circuit partition : List ℕ} {flat : FlatCircuit} {request : Request} {name : List ℕ} → Means circuit flat → IsPartition partition request
     → (said : Said) → IsRefused files lost cut (trace_file_of flat request name) said → IsRefused files lost cut (trace_file_for circuit partition name) said
 trace-refused files means asks said (inl load) = inl load
 trace-refused files {flat = flat} {request = request} means asks said (inr (bytes, can, tells)) = inr (bytes, trace-can flat request can, (flat, means, (request, asks, tells)))
