@@ -1,19 +1,25 @@
-//! A gate where two workers meet.
+//! A gate where two workers meet. It notes that each goes on after its first turn.
 use gg_io::Gate;
 use std::sync::atomic::{AtomicU64, Ordering};
 use std::thread;
 
-// The flags of one worker: whether it has begun, and whether it has seen that the other has.
+// The flags of one worker: whether it has begun, whether it has seen that the other has, and whether it has begun a second turn.
 struct Flags {
     begun: AtomicU64,
     met: AtomicU64,
+    gone_on: AtomicU64,
 }
 
 impl Drop for Flags {
     fn drop(self) {
-        let Self { begun, met } = self;
+        let Self {
+            begun,
+            met,
+            gone_on,
+        } = self;
         drop(begun);
         drop(met);
+        drop(gone_on);
     }
 }
 
@@ -23,6 +29,7 @@ impl Flags {
         Flags {
             begun: AtomicU64::new(0),
             met: AtomicU64::new(0),
+            gone_on: AtomicU64::new(0),
         }
     }
 
@@ -39,7 +46,7 @@ impl Flags {
     }
 }
 
-// A gate where each of two workers waits for the other before its first turn.
+// A gate where each of two workers waits for the other before its first turn. It notes the second turn of each.
 pub(crate) struct Meeting {
     first: Flags,
     second: Flags,
@@ -66,16 +73,31 @@ impl Meeting {
     pub(crate) fn has_met(&self) -> bool {
         self.first.met.load(Ordering::SeqCst) == 1 && self.second.met.load(Ordering::SeqCst) == 1
     }
+
+    // Whether each of the two workers has begun a second turn.
+    pub(crate) fn has_gone_on(&self) -> bool {
+        self.first.gone_on.load(Ordering::SeqCst) == 1
+            && self.second.gone_on.load(Ordering::SeqCst) == 1
+    }
+
+    // The flags of a worker, and those of the other.
+    fn flags(&self, worker: u32) -> (&Flags, &Flags) {
+        if worker == 0 {
+            (&self.first, &self.second)
+        } else {
+            (&self.second, &self.first)
+        }
+    }
 }
 
 impl Gate for Meeting {
     fn pass(&self, worker: u32, turn: u64) {
+        let (own, other) = self.flags(worker);
         if turn == 0 {
-            if worker == 0 {
-                self.first.meet(&self.second);
-            } else {
-                self.second.meet(&self.first);
-            }
+            own.meet(other);
+        }
+        if turn == 1 {
+            own.gone_on.store(1, Ordering::SeqCst);
         }
     }
 }
