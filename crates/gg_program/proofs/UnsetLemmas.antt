@@ -1,11 +1,12 @@
 -- Signals that have still to be evaluated, counted.
-use Rattle.std.proofs.Common.{◌≡◌, ◌≢◌, ℕ, zero, suc, ◌+◌, ◌<◌, ◌≤◌, List, [], ◌∷◌, length, Bool, true, false, true≢false, nat_eq, refl, sym, ◌∙◌, ap, subst, inl, inr, arith}
+use Rattle.std.proofs.Common.{◌≡◌, ◌≢◌, ◌⊎◌, ℕ, zero, suc, ◌+◌, ◌<◌, ◌≤◌, List, [], ◌∷◌, length, Bool, true, false, true≢false, nat_eq, refl, sym, ◌∙◌, ap, subst, inl, inr, arith}
 use Rattle.std.specs.Prelude.{All, AllPairs, Contains}
 use Rattle.std.proofs.lemmas.Bool.Decides.{Decides-eqb}
 use Rattle.gg_flat.specs.declared.piece.Driver.{Driver}
 use Rattle.gg_flat.specs.declared.piece.Driver.TheVariants.{Input, Held, MemoryWord, ReadRegister, Computed}
 use Rattle.gg_flat.specs.Line.{value_at}
 use Rattle.gg_flat.specs.Circuit.{FlatCircuit, driver_at}
+use Rattle.gg_flat.specs.Reads.{Reaches}
 use Rattle.gg_order.specs.Marks.{is_marked}
 use Rattle.gg_program.specs.Slots.{Slotted, IsDone}
 use Rattle.gg_program.specs.inside.Slots.{with_input}
@@ -93,6 +94,46 @@ count-fewer pass after (x ∷ found) n once each less =
     fewer : (s : ℕ) → after s ≡ true → without pass x s ≡ true
     fewer s is = without-other pass x s (λ same. true≢false (sym is ∙ ap after same ∙ (each x (0, omega arith, refl)).2)) ∙ less s is
 
+one_if-most : (b : Bool) → one_if b ≤ 1
+one_if-most true = omega arith
+one_if-most false = omega arith
+
+-- one number less passes, at most
+count-without-most : (pass : ℕ → Bool) (x n : ℕ) → count_below pass n ≤ count_below (without pass x) n + 1
+count-without-most pass x zero = omega arith
+count-without-most pass x (suc n) = by (nat_eq n x) refl (count-without-most pass x n)
+  where
+    by : (b : Bool) → nat_eq n x ≡ b → count_below pass n ≤ count_below (without pass x) n + 1 → count_below pass (suc n) ≤ count_below (without pass x) (suc n) + 1
+    by true e rest =
+        let same : n ≡ x = (Decides-eqb n x).0 e in
+        let most : one_if (pass n) ≤ 1 = one_if-most (pass n) in
+        omega (arith, count-untouched pass x n (omega (arith, same)), most)
+    by false e rest =
+        let other : n ≢ x = λ same. true≢false (sym ((Decides-eqb n x).1 same) ∙ e) in
+        let last : one_if (without pass x n) ≡ one_if (pass n) = ap one_if (without-other pass x n other) in
+        omega (arith, rest, last)
+
+-- numbers that passed before, and pass still or are among those that were found
+count-covered : (pass after : ℕ → Bool) (found : List ℕ) (n : ℕ) → ((s : ℕ) → pass s ≡ true → (after s ≡ true) ⊎ Contains found s) → count_below pass n ≤ length found + count_below after n
+count-covered pass after [] n covered = omega (arith, count-least after pass n (λ s is. still s (covered s is)))
+  where
+    still : (s : ℕ) → (after s ≡ true) ⊎ Contains [] s → after s ≡ true
+    still s (inl is) = is
+    still s (inr has) = absurd (omega (arith, has.1))
+count-covered pass after (x ∷ found) n covered =
+    let rest = count-covered (without pass x) after found n others in
+    omega (arith, count-without-most pass x n, rest)
+  where
+    split : (s : ℕ) → s ≢ x → (after s ≡ true) ⊎ Contains (x ∷ found) s → (after s ≡ true) ⊎ Contains found s
+    split s other (inl is) = inl is
+    split s other (inr (zero, lt, is)) = absurd (other (sym is))
+    split s other (inr (suc k, lt, is)) = inr (k, omega (arith, lt), is)
+
+    others : (s : ℕ) → without pass x s ≡ true → (after s ≡ true) ⊎ Contains found s
+    others s is =
+        let other : s ≢ x = λ same. true≢false (sym is ∙ ap (without pass x) same ∙ without-itself pass x) in
+        split s other (covered s (sym (without-other pass x s other) ∙ is))
+
 -- ---- signals
 
 assigned : (driver : Driver) → ((place : ℕ) → driver ≢ Input place) → is_assignment driver ≡ true
@@ -110,11 +151,13 @@ waits-less true after driver kept is = absurd (true≢false (sym is ∙ ap (λ m
 waits-less false true driver kept is = absurd (true≢false (sym is))
 waits-less false false driver kept is = is
 
--- found signals that are marked now were unset before
-pub unset-found : (circuit : FlatCircuit) (out : ℕ) (first : List Bool) (search : Searched) → AllPairs (λ a b. a ≢ b) search.found → All (IsInner circuit) search.found → IsGathered circuit out first search → length search.found + unset_among circuit search.marks ≤ unset_among circuit first
+-- the found signals are those that are marked now and were unset before
+pub unset-found : (circuit : FlatCircuit) (out : ℕ) (first : List Bool) (search : Searched) → AllPairs (λ a b. a ≢ b) search.found → All (IsInner circuit) search.found → IsGathered circuit out first search → length search.found + unset_among circuit search.marks ≡ unset_among circuit first
 unset-found circuit out first search once inner g =
-    count-fewer (λ s. waits (is_marked first s) (driver_at circuit s)) (λ s. waits (is_marked search.marks s) (driver_at circuit s)) search.found (length circuit.signals) once each
-    (λ s. waits-less (is_marked first s) (is_marked search.marks s) (driver_at circuit s) (λ m. (g.marked s).1 (inl m)))
+    let least = count-fewer (λ s. waits (is_marked first s) (driver_at circuit s)) (λ s. waits (is_marked search.marks s) (driver_at circuit s)) search.found (length circuit.signals) once each
+    (λ s. waits-less (is_marked first s) (is_marked search.marks s) (driver_at circuit s) (λ m. (g.marked s).1 (inl m))) in
+    let most = count-covered (λ s. waits (is_marked first s) (driver_at circuit s)) (λ s. waits (is_marked search.marks s) (driver_at circuit s)) search.found (length circuit.signals) covered in
+    omega (arith, least, most)
   where
     each : (s : ℕ) → Contains search.found s → (s < length circuit.signals) × (waits (is_marked first s) (driver_at circuit s) ≡ true) × (waits (is_marked search.marks s) (driver_at circuit s) ≡ false)
     each s has =
@@ -122,15 +165,29 @@ unset-found circuit out first search once inner g =
         let is : IsInner circuit s = subst (IsInner circuit) has.2 (inner has.0 s has.1) in
         (is.known, waits-inner circuit first s is of.1, ap (λ m. waits m (driver_at circuit s)) ((g.marked s).1 (inr of.0)))
 
+    reached : (s : ℕ) (was is : Bool) → is_marked first s ≡ was → is_marked search.marks s ≡ is → waits was (driver_at circuit s) ≡ true → (waits is (driver_at circuit s) ≡ true) ⊎ Contains search.found s
+    reached s true is e f passes = absurd (true≢false (sym passes))
+    reached s false false e f passes = inl passes
+    reached s false true e f passes = by ((g.marked s).0 f)
+      where
+        by : (is_marked first s ≡ true) ⊎ Reaches circuit out s → (waits true (driver_at circuit s) ≡ true) ⊎ Contains search.found s
+        by (inl m) = absurd (true≢false (sym m ∙ e))
+        by (inr reaches) = inr ((g.found s).1 (reaches, e))
+
+    covered : (s : ℕ) → waits (is_marked first s) (driver_at circuit s) ≡ true → (waits (is_marked search.marks s) (driver_at circuit s) ≡ true) ⊎ Contains search.found s
+    covered s passes = reached s (is_marked first s) (is_marked search.marks s) refl refl passes
+
 -- ---- all signals that aren't marked, from the first to the last
 
-pub rest-step : (circuit : FlatCircuit) (marks : List Bool) (first steps k : ℕ) → IsInner circuit k → is_marked marks k ≡ false → steps ≤ first + count_below (λ s. waits (is_marked marks s) (driver_at circuit s)) k → steps + 1 ≤ first + count_below (λ s. waits (is_marked marks s) (driver_at circuit s)) (k + 1)
-rest-step circuit marks first steps k inner not le =
+pub rest-step : (circuit : FlatCircuit) (marks : List Bool) (first steps k : ℕ) → IsInner circuit k → is_marked marks k ≡ false → steps ≡ first + count_below (λ s. waits (is_marked marks s) (driver_at circuit s)) k → steps + 1 ≡ first + count_below (λ s. waits (is_marked marks s) (driver_at circuit s)) (k + 1)
+rest-step circuit marks first steps k inner not same =
     let one : one_if (waits (is_marked marks k) (driver_at circuit k)) ≡ 1 = ap one_if (waits-inner circuit marks k inner not) in
-    omega (arith, le, one, count-more (λ s. waits (is_marked marks s) (driver_at circuit s)) k)
+    omega (arith, same, one, count-more (λ s. waits (is_marked marks s) (driver_at circuit s)) k)
 
-pub rest-skip : (circuit : FlatCircuit) (marks : List Bool) (first steps k : ℕ) → steps ≤ first + count_below (λ s. waits (is_marked marks s) (driver_at circuit s)) k → steps ≤ first + count_below (λ s. waits (is_marked marks s) (driver_at circuit s)) (k + 1)
-rest-skip circuit marks first steps k le = omega (arith, le, count-more (λ s. waits (is_marked marks s) (driver_at circuit s)) k)
+pub rest-skip : (circuit : FlatCircuit) (marks : List Bool) (first steps k : ℕ) → is_marked marks k ≡ true → steps ≡ first + count_below (λ s. waits (is_marked marks s) (driver_at circuit s)) k → steps ≡ first + count_below (λ s. waits (is_marked marks s) (driver_at circuit s)) (k + 1)
+rest-skip circuit marks first steps k is same =
+    let none : one_if (waits (is_marked marks k) (driver_at circuit k)) ≡ 0 = ap (λ m. one_if (waits m (driver_at circuit k))) is in
+    omega (arith, same, none, count-more (λ s. waits (is_marked marks s) (driver_at circuit s)) k)
 
 -- ---- inputs, and no signal
 

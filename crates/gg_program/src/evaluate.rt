@@ -75,7 +75,7 @@ pub(crate) fn work_rest<L: Ledger>(
     ensures room { cells.new.room ≡ cells.old.room }
     ensures inputs { inputs_in piece.now cells.new.values ≡ inputs_in piece.now cells.old.values }
     ensures right { AreRight piece.now state.now cells.new.values (λ s. s < length piece.now.signals) }
-    ensures steps { steps.new ≤ steps.old + unset_among piece.now marks.now }
+    ensures steps { steps.new ≡ steps.old + unset_among piece.now marks.now }
 {
     for signal in 0..piece.signal_count() {
         if !marks[signal] {

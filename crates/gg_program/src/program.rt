@@ -151,8 +151,8 @@ impl<'a> Program<'a> {
 
     /// The value of the out-signal at this place, in this state and with the inputs that it needs, which were put
     /// before. It depends on no other input. What the out-signal reaches is done then, in addition to what was done
-    /// before. If all inputs were put, more may be done. Each signal that wasn't done is evaluated at most once, and no
-    /// other. It allocates nothing.
+    /// before. If all inputs were put, more may be done. Each signal that is done now and wasn't before is evaluated once,
+    /// and no other. These are the steps. It allocates nothing.
     ///
     /// State and slots are of the program's circuit, in a cycle from this state.
     pub fn cone_once<L: Ledger>(
@@ -170,7 +170,7 @@ impl<'a> Program<'a> {
         ensures done { DoneWith self.now.circuit (value_at self.now.circuit.outs out) slots.old slots.new }
         ensures inputs { inputs_in self.now.circuit slots.new.values ≡ inputs_in self.now.circuit slots.old.values }
         ensures cycle { InCycle self.now.circuit state.now slots.new }
-        ensures steps { steps.new + unset self.now.circuit slots.new ≤ steps.old + unset self.now.circuit slots.old }
+        ensures steps { steps.new + unset self.now.circuit slots.new ≡ steps.old + unset self.now.circuit slots.old }
         ensures still { IsConeDone self.now.circuit (value_at self.now.circuit.outs out) slots.old → steps.new ≡ steps.old }
     {
         let piece = self.piece;
@@ -182,8 +182,8 @@ impl<'a> Program<'a> {
     }
 
     /// Completes a cycle with these edges, after all inputs were put. The state becomes the next one by the settled
-    /// values with these inputs, and no signal is done any more. Each signal that isn't done is evaluated at most once,
-    /// and no other. It allocates nothing.
+    /// values with these inputs, and no signal is done any more. Each signal that isn't done is evaluated once, and no
+    /// other. These are the steps. It allocates nothing.
     ///
     /// State and slots are of the program's circuit, in a cycle from this state.
     pub fn next_once<L: Ledger>(
@@ -200,7 +200,7 @@ impl<'a> Program<'a> {
         ensures state { IsState self.now.circuit state.new }
         ensures cycle { InCycle self.now.circuit state.new slots.new }
         ensures none { NoneDone slots.new }
-        ensures steps { steps.new ≤ steps.old + unset self.now.circuit slots.old }
+        ensures steps { steps.new ≡ steps.old + unset self.now.circuit slots.old }
     {
         slots.next(self.piece, &self.tape, state, edges, steps);
     }

@@ -151,7 +151,7 @@ impl Slots {
         ensures cycle { InCycle piece.now state.now self.new }
         ensures done { DoneWith piece.now signal self.old self.new }
         ensures inputs { inputs_in piece.now self.new.values ≡ inputs_in piece.now self.old.values }
-        ensures steps { steps.new + unset piece.now self.new ≤ steps.old + unset piece.now self.old }
+        ensures steps { steps.new + unset piece.now self.new ≡ steps.old + unset piece.now self.old }
         ensures still { IsConeDone piece.now signal self.old → steps.new ≡ steps.old }
     {
         if !self.is_done(signal) {
@@ -182,7 +182,7 @@ impl Slots {
         ensures cycle { InCycle piece.now state.now self.new }
         ensures done { DoneWith piece.now signal self.old self.new }
         ensures inputs { inputs_in piece.now self.new.values ≡ inputs_in piece.now self.old.values }
-        ensures steps { steps.new + unset piece.now self.new ≤ steps.old + unset piece.now self.old }
+        ensures steps { steps.new + unset piece.now self.new ≡ steps.old + unset piece.now self.old }
     {
         self.search.gather(piece, signal);
         self.search.sort();
@@ -209,7 +209,7 @@ impl Slots {
         ensures done { (s : ℕ) → s < length piece.now.signals → IsDone self.new s }
         ensures inputs { inputs_in piece.now self.new.values ≡ inputs_in piece.now self.old.values }
         ensures settled { Settled piece.now state.now (inputs_in piece.now self.old.values) self.new.values }
-        ensures steps { steps.new + unset piece.now self.new ≤ steps.old + unset piece.now self.old }
+        ensures steps { steps.new + unset piece.now self.new ≡ steps.old + unset piece.now self.old }
     {
         if !self.whole {
             work_rest(
@@ -244,7 +244,7 @@ impl Slots {
         ensures state { IsState piece.now state.new }
         ensures cycle { InCycle piece.now state.new self.new }
         ensures none { NoneDone self.new }
-        ensures steps { steps.new ≤ steps.old + unset piece.now self.old }
+        ensures steps { steps.new ≡ steps.old + unset piece.now self.old }
     {
         self.rest(piece, tape, state, steps);
         state.advance(piece, edges, self.cells.values(), self.room.as_mut_slice());

@@ -29,6 +29,6 @@ loop-signal-preserved g c =
         subst (λ (x : Celled). IsSettling circuit c.args.state.now marks c.args.cells.now.values (k + 1) x.values) (sym w.cells-is)
             (IsSettling-skip circuit c.args.state.now marks c.args.cells.now.values k cells.values w.if-not-marks-signal.false c.loop-signal.invariant.0),
         ap (λ (x : Celled). x.room) w.cells-is ∙ c.loop-signal.invariant.1,
-        omega (arith, rest-skip circuit marks first c.loop-signal.steps k c.loop-signal.invariant.2, w.steps-is),
+        omega (arith, rest-skip circuit marks first c.loop-signal.steps k w.if-not-marks-signal.false c.loop-signal.invariant.2, w.steps-is),
       )
     ]
