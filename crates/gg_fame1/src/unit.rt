@@ -110,8 +110,8 @@ impl<'a> Unit<'a> {
     }
 
     /// The token that an out would give. Changes no machine. The steps are evaluated assignments. They and the
-    /// assignments that have still to be evaluated afterwards are no more than had to be evaluated before. All that the
-    /// out reaches is done afterwards. If it was done before, nothing is evaluated.
+    /// assignments that have still to be evaluated afterwards are as many as had to be evaluated before. All that the out
+    /// reaches is done afterwards. If it was done before, nothing is evaluated.
     pub fn token_once<L: Ledger>(&mut self, thread: u32, place: u32, steps: &mut Steps<L>) -> u128
         requires thread { thread < length (machines_of self.old) }
         requires may { MayFire (machine_at (machines_of self.old) thread) place }
@@ -119,6 +119,7 @@ impl<'a> Unit<'a> {
         ensures program { self.new.program ≡ self.old.program }
         ensures lanes { self.new.lanes ≡ self.old.lanes }
         ensures steps { steps.new + unset_of self.new thread ≤ steps.old + unset_of self.old thread }
+        ensures exact { self.old.turn ≡ thread → steps.new + unset_of self.new thread ≡ steps.old + unset_of self.old thread }
         ensures cone { IsConeDoneOf self.new thread place }
         ensures still { IsConeDoneOf self.old thread place → steps.new ≡ steps.old }
     {

@@ -183,7 +183,7 @@ impl Lane {
         requires may { MayFire (lane_machine program.now self.now) place }
         ensures token { IsToken (lane_machine program.now self.now) place result }
         ensures held { Hold program.now.circuit slots.new self.now }
-        ensures steps { steps.new + unset program.now.circuit slots.new ≤ steps.old + unset program.now.circuit slots.old }
+        ensures steps { steps.new + unset program.now.circuit slots.new ≡ steps.old + unset program.now.circuit slots.old }
         ensures cone { IsConeDone program.now.circuit (out_signal program.now.circuit self.now place) slots.new }
         ensures still { IsConeDone program.now.circuit (out_signal program.now.circuit self.now place) slots.old → steps.new ≡ steps.old }
     {
@@ -247,7 +247,7 @@ impl Lane {
         ensures step { self.new ≡ finished_lane self.old self.new.state }
         ensures lane { IsLane program.now.circuit self.new }
         ensures held { Hold program.now.circuit slots.new self.new }
-        ensures steps { steps.new ≤ steps.old + unset program.now.circuit slots.old }
+        ensures steps { steps.new ≡ steps.old + unset program.now.circuit slots.old }
     {
         // for the invariant only
         let _ = program.piece();

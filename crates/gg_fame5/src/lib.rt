@@ -8,7 +8,8 @@
 //! - each step of a thread changes its machine as the definitions of gg_node say, and leaves every other thread's
 //!   machine as it was;
 //! - `Shared::token_once` returns an out's token and counts the assignments that it evaluates. These and the
-//!   assignments that have still to be evaluated afterwards (`unset_of`) are no more than had to be evaluated before.
+//!   assignments that have still to be evaluated afterwards (`unset_of`) are no more than had to be evaluated before,
+//!   and exactly as many if the thread had the turn.
 //!   What the out reaches is done then, and if it was done before, nothing is evaluated. `latch`, `token` and `fire`
 //!   leave `unset_of` of their thread no higher.
 //!

@@ -212,7 +212,7 @@ impl<'a> Shared<'a> {
         ensures program { self.new.program ≡ self.old.program }
         ensures lanes { self.new.lanes ≡ self.old.lanes }
         ensures turn { self.new.turn ≡ self.old.turn }
-        ensures steps { steps.new + unset self.old.program.circuit self.new.slots ≤ steps.old + unset self.old.program.circuit self.old.slots }
+        ensures steps { steps.new + unset self.old.program.circuit self.new.slots ≡ steps.old + unset self.old.program.circuit self.old.slots }
         ensures cone { IsConeDone self.old.program.circuit (out_signal self.old.program.circuit (lane_at self.old.lanes self.old.turn) place) self.new.slots }
         ensures still { IsConeDone self.old.program.circuit (out_signal self.old.program.circuit (lane_at self.old.lanes self.old.turn) place) self.old.slots → steps.new ≡ steps.old }
     {
@@ -265,8 +265,9 @@ impl<'a> Shared<'a> {
     }
 
     /// The token that an out of a thread would give. Changes no machine. The steps are evaluated assignments. They and
-    /// the assignments that have still to be evaluated afterwards are no more than had to be evaluated before. All that
-    /// the out reaches is done afterwards. If it was done before, nothing is evaluated.
+    /// the assignments that have still to be evaluated afterwards are no more than had to be evaluated before, and exactly
+    /// as many if the thread had the turn. All that the out reaches is done afterwards. If it was done before, nothing is
+    /// evaluated.
     pub fn token_once<L: Ledger>(&mut self, thread: u32, place: u32, steps: &mut Steps<L>) -> u128
         requires thread { thread < length (machines_of self.old) }
         requires may { MayFire (machine_at (machines_of self.old) thread) place }
@@ -274,6 +275,7 @@ impl<'a> Shared<'a> {
         ensures program { self.new.program ≡ self.old.program }
         ensures lanes { self.new.lanes ≡ self.old.lanes }
         ensures steps { steps.new + unset_of self.new thread ≤ steps.old + unset_of self.old thread }
+        ensures exact { self.old.turn ≡ thread → steps.new + unset_of self.new thread ≡ steps.old + unset_of self.old thread }
         ensures cone { IsConeDoneOf self.new thread place }
         ensures still { IsConeDoneOf self.old thread place → steps.new ≡ steps.old }
     {

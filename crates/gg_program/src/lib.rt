@@ -7,10 +7,10 @@
 //! - `Program::needs` lists exactly the in-signals that the out-signal reaches by a path of reads;
 //! - `Program::cone_once` returns the out-signal's value in every settled row of the state with the needed inputs. It depends on no other input
 //!   (`one_cone_value`). Afterwards the signals are done that were done before or that the out-signal reaches, and no others unless all inputs were
-//!   put. The steps, together with the signals that have still to be evaluated (`unset`), are no more than those before. If all that it reaches was
-//!   done, no step is taken;
-//! - `Program::next_once` goes to the next state by the settled values with the inputs that were put. It takes at most
-//!   `unset` steps. Afterwards no signal is done;
+//!   put. The steps, together with the signals that have still to be evaluated (`unset`), are exactly as many as had to be evaluated before. If all that
+//!   it reaches was done, no step is taken;
+//! - `Program::next_once` goes to the next state by the settled values with the inputs that were put. It takes `unset`
+//!   steps. Afterwards no signal is done;
 //! - `run_cone` and `run_next` are the same without a count.
 //!
 //! Only `Program::of` and `Program::slots` allocate.
