@@ -3,9 +3,9 @@
 #![tactic(auto)]
 
 ghost use Rattle.std.specs.Prelude.{◌≡◌, [], ◌∷◌, codes, IfOk};
-ghost use Rattle.gg_bits.specs.Paths.{texts};
 ghost use Rattle.gg_flat.specs.State.{opening};
 ghost use Rattle.gg_io.specs.Ends.{loads_of, puts_of};
+ghost use Rattle.gg_words.specs.Meaning.{texts};
 ghost use Rattle.golden_run.specs.inside.Echoes.{IsEchoOf, IsFreshEcho, PromisedWithEchoes};
 
 use gg_bits::Name;
