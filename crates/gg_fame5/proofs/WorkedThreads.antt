@@ -87,6 +87,17 @@ q-not-done done = true≢false (sym (done.cone 3 (Reaches-itself unit 3)))
 not-kept : ¬ (unset_of shared 1 ≡ unset_of shared 0)
 not-kept same = omega (arith, same)
 
+-- `k` was put too, and `q` was worked out
+abbrev with-q : Slotted
+with-q = record { values = 5 ∷ 0 ∷ 5 ∷ 5 ∷ []; done = true ∷ true ∷ true ∷ true ∷ []; room = 3 }
+
+abbrev worked-out : Sharing
+worked-out = record shared { slots = with-q }
+
+-- a call that works out `q` and counts no step isn't exact
+not-uncounted : ¬ (7 + unset_of worked-out 0 ≡ 7 + unset_of shared 0)
+not-uncounted same = omega (arith, same)
+
 -- ---- a row of steps: `p`, then `q`, then `q` once more
 
 -- by what `token_once` promises of each call, `p` and `q` take at most two steps together
