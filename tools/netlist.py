@@ -142,7 +142,8 @@ class Module:
         for ring, is_loop in rows:
             if is_loop:
                 inside = [self.cells[key[0]] for key in ring]
-                spots = sorted({f"{place(row)} ({row['type']})" for row in inside})
+                known = [row for row in inside if place(row) and not place(row).endswith(":0")]
+                spots = sorted({f"{place(row)} ({row['type']})" for row in known or inside})
                 more = "; --flatten makes one module of all, and may end it" if any(row["type"] in self.deep for row in inside) else ""
                 raise Refused(f"{spots[0].split(' ')[0]}: a combinational loop by whole signals: {', '.join(spots)}{more}")
         self.keys = [ring[0] for ring, _ in rows]
