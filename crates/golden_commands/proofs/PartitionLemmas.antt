@@ -24,6 +24,7 @@ use Rattle.gg_io.specs.declared.endings.Ending.{Ending}
 use Rattle.gg_io.proofs.EndingLemmas.{IfRefused-map}
 use Rattle.golden_commands.specs.declared.partition.Cut.{Cut}
 use Rattle.golden_commands.specs.Lines.{partition_fault}
+use Rattle.gg_io.specs.Ends.{Loads}
 use Rattle.gg_io.specs.Order.{CanBe, IsExactFile, IsUniqueFile, IsRefused}
 use Rattle.gg_io.proofs.OrderLemmas.{exact-by}
 use Rattle.golden_commands.specs.Partition.{Cuts, HasFault, Known, OfBridges, OfFile, OfRequest, IsPartitionFor, TellsPartitionOf, TellsPartitionFor, partition_file_for}
@@ -114,10 +115,10 @@ pub partition-can : {known : Known} {files : List ℕ → Told} {circuit : List 
 partition-can can = record { held = can.held; within = can.within }
 
 -- a partition that is refused for a design that some bytes mean is refused for these bytes
-pub partition-refused : {known : Known} (files : List ℕ → Told) {lost cut : List ℕ → Type 0} {circuit : List ℕ} {design : Ordered} {name : List ℕ} → MeansDesign circuit design
-    → (said : Said) → IsRefused files lost cut (partition_file_of known design name) said → IsRefused files lost cut (partition_file_for known circuit name) said
-partition-refused files means said (inl load) = inl load
-partition-refused files {design = design} means said (inr (bytes, can, tells)) = inr (bytes, record { held = can.held; within = can.within }, (design, means, tells))
+pub partition-refused : {known : Known} (loads : Loads) {circuit : List ℕ} {design : Ordered} {name : List ℕ} → MeansDesign circuit design
+    → (said : Said) → IsRefused loads.files loads.lost loads.cut (partition_file_of known design name) said → IsRefused loads.files loads.lost loads.cut (partition_file_for known circuit name) said
+partition-refused loads means said (inl load) = inl load
+partition-refused loads {design = design} means said (inr (bytes, can, tells)) = inr (bytes, record { held = can.held; within = can.within }, (design, means, tells))
 
 -- ---- what is reported for a fault
 

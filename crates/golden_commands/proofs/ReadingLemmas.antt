@@ -9,6 +9,7 @@ use Rattle.gg_trace.specs.declared.faults.TraceFault.{TraceFault}
 use Rattle.gg_trace.specs.declared.faults.TraceFault.TheVariants as trace
 use Rattle.gg_trace.specs.declared.faults.TraceFault.TheVariants.{Heading, RowNumber, NotHexadecimal, TooWide, FieldCount, TooManyRows}
 use Rattle.gg_io.specs.Said.{Said}
+use Rattle.gg_io.specs.Ends.{Loads}
 use Rattle.gg_io.specs.Order.{CanBe, IsRefused}
 use Rattle.golden_commands.specs.Run.{trace_file_for}
 use Rattle.golden_commands.specs.inside.Run.{trace_file_of}
@@ -56,7 +57,7 @@ pub trace-can : {files : List ℕ → Told} {circuit partition : List ℕ} {name
 trace-can flat request can = record { held = can.held; within = can.within }
 
 -- a trace that is refused for a flat circuit and a request that some bytes mean is refused for these bytes
-pub trace-refused : (files : List ℕ → Told) {lost cut : List ℕ → Type 0} {circuit partition : List ℕ} {flat : FlatCircuit} {request : Request} {name : List ℕ} → Means circuit flat → IsPartition partition request
-    → (said : Said) → IsRefused files lost cut (trace_file_of flat request name) said → IsRefused files lost cut (trace_file_for circuit partition name) said
-trace-refused files means asks said (inl load) = inl load
-trace-refused files {flat = flat} {request = request} means asks said (inr (bytes, can, tells)) = inr (bytes, trace-can flat request can, (flat, means, (request, asks, tells)))
+pub trace-refused : (loads : Loads) {circuit partition : List ℕ} {flat : FlatCircuit} {request : Request} {name : List ℕ} → Means circuit flat → IsPartition partition request
+    → (said : Said) → IsRefused loads.files loads.lost loads.cut (trace_file_of flat request name) said → IsRefused loads.files loads.lost loads.cut (trace_file_for circuit partition name) said
+trace-refused loads means asks said (inl load) = inl load
+trace-refused loads {flat = flat} {request = request} means asks said (inr (bytes, can, tells)) = inr (bytes, trace-can flat request can, (flat, means, (request, asks, tells)))

@@ -1,4 +1,5 @@
 use Rattle.std.proofs.Common.{inl}
+use Rattle.gg_io.specs.Ends.{loads_of}
 use Rattle.gg_io.specs.Order.{Load, Write}
 use Rattle.golden_commands.specs.Partition.{partition_file_for}
 use Rattle.gg_io.proofs.EndingLemmas.{can-before, later-stops, loads-on, exit-is, IfRefused-map}
@@ -14,7 +15,7 @@ returns-in_err-cut-clause-refused g c =
     let accepted = c.in_ok-design.ensures.accepted in
     rw (exit-is c.from_residual-in_err-cut.ensures.1)
     (IfRefused-map
-    (λ said h. later-stops (loads-on c.read_cut.new.shelf c.load_circuit.ensures.shelf) (λ b. Load (partition_file_for (record { models = c.args.models.now; saves = c.args.saves }) b c.args.partition.now) (λ p. Write (λ text. Unit {0}))) accepted.0 accepted.1 accepted.2.means.text (inl (partition-refused (g.S.Shelf.files c.load_circuit.new.shelf) accepted.2 said h)))
+    (λ said h. later-stops (loads-on c.read_cut.new.shelf c.load_circuit.ensures.shelf) (λ b. Load (partition_file_for (record { models = c.args.models.now; saves = c.args.saves }) b c.args.partition.now) (λ p. Write (λ text. Unit {0}))) accepted.0 accepted.1 accepted.2.means.text (inl (partition-refused (loads_of g.S.Shelf c.load_circuit.new.shelf c.read_cut.new.shelf) accepted.2 said h)))
     c.in_err-cut.field-0.0 c.in_err-cut.ensures.refused)
 
 pub returns-clause-read : goal.returns-clause-read

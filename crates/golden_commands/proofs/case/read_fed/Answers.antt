@@ -18,7 +18,7 @@ returns-in_err-inputs-clause-refused g c =
     let read = c.in_ok-case.ensures.read in
     rw (exit-is c.from_residual-in_err-inputs.ensures.1)
     (IfRefused-map
-    (λ said h. case-later (loads-on c.read_inputs.new.shelf c.read_case.ensures.shelf) (λ b p. Load (trace_file_for b p c.args.trace.now) (λ t. Write (λ text. Unit {0}))) read (inl (trace-refused (g.S.Shelf.files c.read_case.new.shelf) read.is.means.means read.is.cuts.asks said h)))
+    (λ said h. case-later (loads-on c.read_inputs.new.shelf c.read_case.ensures.shelf) (λ b p. Load (trace_file_for b p c.args.trace.now) (λ t. Write (λ text. Unit {0}))) read (inl (trace-refused (loads_of g.S.Shelf c.read_case.new.shelf c.read_inputs.new.shelf) read.is.means.means read.is.cuts.asks said h)))
     c.in_err-inputs.field-0.0 c.in_err-inputs.ensures.refused)
 
 pub returns-clause-read : goal.returns-clause-read
