@@ -143,7 +143,7 @@ module _ {models : Models} {words : List (List ℕ)} {loads : Loads} {out err : 
     nothing_written x y z =
         a.written ∙ ap (append_known out.before) (none-written models loads out.failed words status a.text a.line caused x y z) ∙ append_known-nil out.before
 
-    module _ (once : OneMeaning) (none : loads.lost → ⊥) where
+    module _ (once : OneMeaning) (none : NoneLost loads) where
       due-told : (order : Order) (due : Said) → SaysDue loads out.failed status a.line order due
           → ((status ≡ due.status) × ((said : Said) × DueAt loads.files order said × Tells err status said)) ⊎ (status ≡ 5)
       due-told order due (inl h) = inl (h.0, (h.1.0, h.1.1, reported-as h.1.0 h.1.2 h.1.3))
