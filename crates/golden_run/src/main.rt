@@ -2,11 +2,8 @@
 //! the status that `golden_with` returns. The echoes `echo1`, `echo8`, `echo32` and `echo64` have as many bits.
 #![tactic(auto)]
 
-ghost use Rattle.std.specs.Prelude.{◌≡◌, [], ◌∷◌, codes, IfOk};
+ghost use Rattle.std.specs.Prelude.{◌≡◌, [], ◌∷◌, codes, length, IfOk};
 ghost use Rattle.gg_flat.specs.State.{opening};
-ghost use Rattle.gg_io.specs.Ends.{loads_of, puts_of};
-ghost use Rattle.gg_words.specs.Meaning.{texts};
-ghost use Rattle.golden_run.specs.inside.Echoes.{IsEchoOf, IsFreshEcho, PromisedWithEchoes};
 
 use gg_bits::Name;
 use gg_bridge::{Bridge, Echo};
@@ -44,10 +41,10 @@ struct Echoes {
 
 // Four echoes in the state of zeros.
 fn make_echoes(alloc: Global) -> Result<Echoes, AllocError>
-    ensures one { IfOk result (λ made. IsFreshEcho 1 made.one) }
-    ensures eight { IfOk result (λ made. IsFreshEcho 8 made.eight) }
-    ensures many { IfOk result (λ made. IsFreshEcho 32 made.many) }
-    ensures most { IfOk result (λ made. IsFreshEcho 64 made.most) }
+    ensures one { IfOk result (λ made. made.one.last ≡ 0) }
+    ensures eight { IfOk result (λ made. made.eight.last ≡ 0) }
+    ensures many { IfOk result (λ made. made.many.last ≡ 0) }
+    ensures most { IfOk result (λ made. made.most.last ≡ 0) }
 {
     Ok(Echoes {
         one: Echo::new(alloc, 1)?,
@@ -75,7 +72,7 @@ fn named(
     Ok(bridges)
 }
 
-// Calls `golden_with` with these words and these bridges, echoes in the state of zeros. Returns its status.
+// Calls `golden_with` with these words and these bridges, each in the state of zeros. Returns its status.
 fn call_with<R: Threads + Sync, S: Shelf, K: Sink, E: Sink>(
     rt: &R,
     alloc: Global,
@@ -88,20 +85,17 @@ fn call_with<R: Threads + Sync, S: Shelf, K: Sink, E: Sink>(
     many: Box<dyn Bridge + Send + Drop>,
     most: Box<dyn Bridge + Send + Drop>,
 ) -> Result<u8, AllocError>
-    requires one { IsEchoOf 1 (piece one) }
-    requires eight { IsEchoOf 8 (piece eight) }
-    requires many { IsEchoOf 32 (piece many) }
-    requires most { IsEchoOf 64 (piece most) }
-    requires zero1 { state one ≡ opening (piece one) }
-    requires zero2 { state eight ≡ opening (piece eight) }
-    requires zero3 { state many ≡ opening (piece many) }
-    requires zero4 { state most ≡ opening (piece most) }
-    ensures promised { IfOk result (PromisedWithEchoes (texts words.now) (loads_of S.Shelf shelf.old shelf.new)
-        (puts_of K.Sink out.old out.new) (puts_of E.Sink err.old err.new)) }
+    requires one { state one ≡ opening (piece one) }
+    requires eight { state eight ≡ opening (piece eight) }
+    requires many { state many ≡ opening (piece many) }
+    requires most { state most ≡ opening (piece most) }
+    requires few1 { length (piece one).signals ≡ 2 }
+    requires few2 { length (piece eight).signals ≡ 2 }
+    requires few3 { length (piece many).signals ≡ 2 }
+    requires few4 { length (piece most).signals ≡ 2 }
 {
     let bridges = named(alloc, one, eight, many, most)?;
-    let status = golden_with(rt, alloc, words, shelf, out, err, &NoGate, bridges);
-    Ok(status)
+    Ok(golden_with(rt, alloc, words, shelf, out, err, &NoGate, bridges))
 }
 
 // Calls `golden_with` with these words and the echoes. Returns its status.
@@ -112,10 +106,7 @@ fn call<R: Threads + Sync, S: Shelf, K: Sink, E: Sink>(
     shelf: &mut S,
     out: &mut K,
     err: &mut E,
-) -> Result<u8, AllocError>
-    ensures promised { IfOk result (PromisedWithEchoes (texts words.now) (loads_of S.Shelf shelf.old shelf.new)
-        (puts_of K.Sink out.old out.new) (puts_of E.Sink err.old err.new)) }
-{
+) -> Result<u8, AllocError> {
     let Echoes {
         one,
         eight,

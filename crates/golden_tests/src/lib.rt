@@ -8,7 +8,7 @@
 //!   keeps values.
 //! - `failures`, `outputs`: calls with each load and each put failing in turn.
 //! - `counted`: how often a bridge is called;
-//! - `workers`, `passes`: two workers that meet, and which windows have workers.
+//! - `workers`: two workers that meet.
 #![tactic(auto)]
 
 #[cfg(test)]
@@ -23,8 +23,6 @@ mod failures;
 mod large;
 #[cfg(test)]
 mod outputs;
-#[cfg(test)]
-mod passes;
 #[cfg(test)]
 mod row;
 #[cfg(test)]
