@@ -1,7 +1,7 @@
 """One module of a netlist as a module of golden's dialect."""
 import re
 
-from cells import LIMIT, Cells, literal, number_of
+from cells import LIMIT, Cells, literal, number_of, resized
 from memories import Memory
 from refused import Refused, info, place
 
@@ -177,6 +177,10 @@ class Writer(Cells):
             self.memories[cell].read(int(port.split("#")[1]))
             return
         links = row["connections"]
+        if row["type"] in ("$eqx", "$nex") and not {"x", "z"}.isdisjoint(links["A"] + links["B"]):
+            # Nothing here is x or z.
+            self.note(links["Y"], resized(["1" if row["type"] == "$nex" else "0"], len(links["Y"]), False))
+            return
         ports = {name: self.atoms(bits) for name, bits in links.items() if name != "Y"}
         hint = self.hint(links["Y"], row["type"].lstrip("$"))
         self.note(links["Y"], super().write(hint, row, {**ports, "Y": links["Y"]}))

@@ -20,7 +20,8 @@ def bench(top, ports, waveform, edge, depth, first):
     lines += [f"{top} dut ({', '.join(links)});", "always #5000 survey_clock = !survey_clock;", "initial begin",
               f'survey_seed = 7; $dumpfile("{waveform}"); $dumpvars({depth}, survey_bench); #1000;', *first,
               f"for (survey_row = 0; survey_row < {ROWS}; survey_row = survey_row + 1) begin", *values,
-              f"@({'' if edge == '--both' else 'posedge '}survey_clock) #1000;", "end", f"#{5000 if edge == '--falling' else 3000} $finish;", "end", "endmodule", ""]
+              f"@({'' if edge == '--both' else 'posedge '}survey_clock) #1000;", "end", f"#{5000 if edge == '--falling' else 3000} $finish;", "end",
+              "endmodule", ""]
     return "\n".join(lines)
 
 
