@@ -9,7 +9,8 @@
 //! - `Tape::value` returns the value of a signal's driver (gg_flat's `driver_value`), and `Tape::settle` makes the
 //!   settled values of a cycle (gg_flat's `Settled`).
 //!
-//! [`Cells`] are the values of the signals, followed by scratch space. Only `Tape::of` and `Cells::new` allocate.
+//! [`Cells`] are the values of the signals, followed by scratch space. Only `Tape::of`,
+//! `Tape::whole` and `Cells::new` allocate.
 #![tactic(auto)]
 
 mod apply;

@@ -14,8 +14,8 @@
 //! numbers.
 //!
 //! The first turn of a worker is one pass over its machines, starting with the host with the least number. In each later turn it goes on by the steps
-//! of its own machines in the order, until one is still to be done and can't be. After 64 turns in a row without a step, and each 64 more, a turn is
-//! a pass again. The gate is passed at the start of a turn. A worker ends before a turn where none of its machines is below `upto`, or after 1,024
+//! of its own machines in the order, until one is still to be done and can't be. Each 64th of the turns in a row without a step is a
+//! pass again. The gate is passed at the start of a turn. A worker ends before a turn where none of its machines is below `upto`, or after 1,024
 //! turns in a row without a step. Where a thread can't be started, the caller's does the work. All memory is taken before the first step.
 //!
 //! Therefore steps lead from the network to the network that comes back ([`later_by_steps`]).

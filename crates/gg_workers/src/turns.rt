@@ -22,7 +22,7 @@ use std::{hint, thread};
 // A worker ends after this many turns in a row without a step.
 const IDLE_TURNS: u32 = 1024;
 
-// After this many turns in a row without a step, and each time after as many more, a turn is a pass over all machines.
+// Of the turns in a row without a step, each one whose number is a multiple of this is a pass over all machines.
 const WAITING_TURNS: u32 = 64;
 
 // The longest rest after a turn without a step, in waits of the processor.
