@@ -235,6 +235,10 @@ module _ (planned : List ℕ) (count host : ℕ) (numbers changed : List (Option
         most = let most = was.most in omega (arith, most, total);
       }
 
+  -- the host of the next machine is known, and has no more threads than machines came before
+  pub host-joins : IsHostFor (value_at planned count) host numbers changed members grown → (host < length grown) × (length (group_at grown host) ≤ count)
+  host-joins is = let now = ready is in (now.low, now.grouped.few host)
+
   pub so-far-more : (thread : ℕ) (new_hosts new_threads : List ℕ) (new : List (List ℕ)) → IsHostFor (value_at planned count) host numbers changed members grown → thread ≡ length (group_at grown host) → new_hosts ≡ hosts ++ host ∷ [] → new_threads ≡ threads ++ thread ∷ [] → new ≡ more
       → AreSoFar planned (count + 1) changed new_hosts new_threads new
   so-far-more thread new_hosts new_threads new is at host_is thread_is new_is =

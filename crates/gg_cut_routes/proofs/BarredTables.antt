@@ -1,6 +1,7 @@
 -- Marks on the signals that are no origins, and the channels of a plan by them.
 use Rattle.std.proofs.Common.{◌≡◌, ◌≢◌, ℕ, ◌+◌, ◌<◌, List, [], ◌∷◌, ◌++◌, length, take, set, get_or, slice_get, Bool, true, false, refl, eq-eqb, sym, ◌∙◌, ap, subst, Some, inl, inr, ◌⊎◌}
 use Rattle.std.specs.Prelude.{◌&&◌, ◌==◌, ◌||◌, bytes_eq, Contains, AllPairs}
+use Rattle.std.specs.List.{list_any}
 use Rattle.std.proofs.Math.Bool.{or-false, and-false, or_assoc, and-or_distrib_left}
 use Rattle.std.proofs.lemmas.Bool.{and_parts, cases_Bool, cases_eq, eqb-true, ne_eqb}
 use Rattle.std.proofs.lemmas.List.{get_or_default, take_more, append-nil}
@@ -34,6 +35,19 @@ use Rattle.gg_cut_routes.proofs.PlanLemmas.{plan-base}
 pub record MarkedBy (paths names : List (List ℕ)) (count i : ℕ) (marks : List Bool) : Type 0 where
   pub long : length marks ≡ count
   pub each : (s : ℕ) → s < count → is_marked marks s ≡ is_among (take i names) (path_at paths s)
+
+-- one more name
+pub MarkedBy-next : (paths names : List (List ℕ)) (count i : ℕ) (name : List ℕ) (old new : List Bool) → i < length names → name ≡ get_or names i name → MarkedBy paths names count i old → length new ≡ length old
+    → ((s : ℕ) → s < count → is_marked new s ≡ (is_marked old s || bytes_eq (path_at paths s) name)) → MarkedBy paths names count (i + 1) new
+MarkedBy-next paths names count i name old new lt is was long each =
+    record {
+      long = long ∙ was.long;
+      each = λ s low.
+          let path = path_at paths s in
+          each s low ∙ ap (λ b. b || bytes_eq (path_at paths s) name) (was.each s low)
+          ∙ ap (λ b. is_among (take i names) (path_at paths s) || b) (ap (bytes_eq path) is ∙ sym (or-false (bytes_eq path (get_or names i name))))
+          ∙ sym (ap (list_any (bytes_eq path)) (take_more names i name lt) ∙ list_any-append (bytes_eq path) (take i names) (get_or names i name ∷ []));
+    }
 
 -- a signal has this path exactly if it is the one that a look-up finds
 named-at : (paths : List (List ℕ)) (name : List ℕ) (k s : ℕ) → AllPairs (λ a b. a ≢ b) paths → slice_get paths k ≡ Some name → s < length paths → (k == s) ≡ bytes_eq (path_at paths s) name

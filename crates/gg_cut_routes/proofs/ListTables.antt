@@ -1,10 +1,11 @@
 -- Lists that are filled item by item, and what they contain.
-use Rattle.std.proofs.Common.{◌≡◌, ℕ, zero, suc, ◌+◌, ◌<◌, List, [], ◌∷◌, ◌++◌, length, map, take, get_or, Bool, true, false, Option, Some, None, refl, sym, ◌∙◌, ap, ap₂, subst, eq-eqb, arith}
+use Rattle.std.proofs.Common.{◌≡◌, ℕ, zero, suc, ◌+◌, ◌<◌, List, [], ◌∷◌, ◌++◌, length, map, take, drop, get_or, Bool, true, false, Option, Some, None, refl, sym, ◌∙◌, ap, ap₂, subst, eq-eqb, arith}
 use Rattle.std.specs.Prelude.{◌↔◌, ◌==◌, cond, if◌then◌else◌, filter, flat_map, Contains}
 use Rattle.std.specs.List.{list_any}
 use Rattle.std.specs.Option.{option_to_list}
 use Rattle.std.proofs.lemmas.Bool.{eqb-true}
-use Rattle.std.proofs.lemmas.List.{map-append}
+use Rattle.std.proofs.lemmas.List.{map-append, flat_map_more, take_more}
+use Rattle.std.proofs.Math.Seq.{take-append_seam}
 use Rattle.std.proofs.lemmas.List.Elements.{filter_more, Contains-get_or}
 use Rattle.gg_flat.proofs.ListLemmas.{some-item, here, further}
 use Rattle.gg_cut_split.proofs.ClosedLemmas.ListLemmas.{flattened-cases, flat_map-is}
@@ -72,3 +73,12 @@ map-filter-next {A = A} {B = B} f test xs i d lt =
     by : (b : Bool) → map f (if b then get_or xs i d ∷ [] else []) ≡ (if b then f (get_or xs i d) ∷ [] else [])
     by true = refl
     by false = refl
+
+-- what one more element of a list gives
+pub flat-next : {A B : Type 0} (f : A → List B) (old now new : List B) (xs : List A) (i : ℕ) (d : A) → i < length xs → now ≡ old ++ flat_map f (take i xs) → new ≡ now ++ f (get_or xs i d) → new ≡ old ++ flat_map f (take (i + 1) xs)
+flat-next f old now new xs i d lt was is =
+    is ∙ ap (λ l. l ++ f (get_or xs i d)) was ∙ flat_map_more f old (take i xs) (get_or xs i d) ∙ ap (λ l. old ++ flat_map f l) (sym (take_more xs i d lt))
+
+-- a list that replaces all of a vector's elements
+pub written-back : {A : Type 0} (n : ℕ) (new old : List A) → n ≡ length old → length new ≡ length old → take n (new ++ drop (length new) old) ≡ new
+written-back n new old is same = ap (λ k. take k (new ++ drop (length new) old)) (is ∙ sym same) ∙ take-append_seam new (drop (length new) old)

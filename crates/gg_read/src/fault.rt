@@ -1,5 +1,6 @@
 //! Why a line is at fault.
-ghost use Rattle.std.specs.Prelude.{◌≡◌, ◌∷◌, [], MatchBool, IfOk};
+ghost use Rattle.std.specs.Prelude.{◌≡◌, ◌∷◌, [], map, bytes_eq, MatchBool, IfOk};
+ghost use Rattle.std.specs.List.{list_any};
 ghost use Rattle.gg_read.specs.Causes.{IsFaultOf};
 ghost use Rattle.gg_read.specs.Text.{IsTooDeep, opened, closed, first_outside, outside_text, is_outside_word};
 
@@ -107,31 +108,46 @@ fn some_name(alloc: Global, text: &str) -> Result<Option<Name>, AllocError>
     Ok(Some(Name::from(owned)))
 }
 
+// The words that are left out of the language.
+static OUTSIDE: [&str; 26] = [
+    "when",
+    "else",
+    "extmodule",
+    "intmodule",
+    "cmem",
+    "smem",
+    "infer",
+    "attach",
+    "layer",
+    "layerblock",
+    "group",
+    "define",
+    "parameter",
+    "defname",
+    "Analog",
+    "Fixed",
+    "Interval",
+    "AsyncReset",
+    "Reset",
+    "Probe",
+    "flip",
+    "asClock",
+    "asAsyncReset",
+    "asFixedPoint",
+    "asInterval",
+    "readwriter",
+];
+
+// Whether a word is one of these.
+fn is_one_of(words: &[&str], word: &str) -> bool
+    ensures { result ≡ list_any (bytes_eq word.now) (map (λ w. w.now) words.now) }
+{
+    words.contains(&word)
+}
+
 // Whether a word is left out of the language.
 fn is_outside_word(word: &str) -> bool
     ensures { result ≡ is_outside_word word.now }
 {
-    match word {
-        "when"
-        | "else"
-        | "extmodule"
-        | "intmodule"
-        | "cmem"
-        | "smem"
-        | "infer"
-        | "attach"
-        | "layer" => true,
-        "layerblock"
-        | "group"
-        | "define"
-        | "parameter"
-        | "defname"
-        | "Analog"
-        | "Fixed"
-        | "Interval" => true,
-        "AsyncReset" | "Reset" | "Probe" | "flip" | "asClock" | "asAsyncReset" | "asFixedPoint" =>
-            true,
-        "asInterval" | "readwriter" => true,
-        _ => false,
-    }
+    is_one_of(&OUTSIDE, word)
 }

@@ -1,6 +1,7 @@
 -- Whether a module exists, and which names are declared before a statement.
-use Rattle.std.proofs.Common.{◌≡◌, ℕ, ◌+◌, ◌<◌, ◌≤◌, List, [], ◌∷◌, ◌++◌, length, take, get_or, slice_index_or, Option, Some, None, is_some, refl, sym, ap, subst, ◌∙◌, arith, length-append}
-use Rattle.std.proofs.lemmas.List.{take_more, get_or_default}
+use Rattle.std.proofs.Common.{◌≡◌, ◌≢◌, ⊎_elim, ℕ, ◌+◌, ◌<◌, ◌≤◌, List, [], ◌∷◌, ◌++◌, length, take, get_or, slice_index_or, Option, Some, None, is_some, refl, sym, ap, subst, ◌∙◌, arith, length-append}
+use Rattle.std.proofs.lemmas.Bool.{cases_eq}
+use Rattle.std.proofs.lemmas.List.{take_more, get_or_default, get_or_at, get_or_append_left}
 use Rattle.gg_ast.specs.declared.expression.Reference.{Reference}
 use Rattle.gg_ast.specs.declared.module.Port.{Port}
 use Rattle.gg_ast.specs.declared.statement.Stmt.{Stmt}
@@ -52,3 +53,18 @@ sinks-at modules all i connected m lt told at is =
     let same : slice_index_or all i [] ≡ connected = get_or_default all i [] connected (omega (arith, told.one_each)) ∙ sym at in
     let tells : TellsConnected (module_at modules i).statements connected = subst (TellsConnected (module_at modules i).statements) same (told.tell i lt) in
     ap (unconnected_among modules (is_among connected)) (sym here) ∙ sinks-told modules (module_at modules i) connected tells
+
+-- what is connected in one module more
+pub TellsFirst-more : (modules : List ModuleTree) (count : ℕ) (all : List (List Reference)) (connected : List Reference) (new : List (List Reference)) → TellsFirst modules count all → new ≡ all ++ connected ∷ [] → TellsConnected (module_at modules count).statements connected → TellsFirst modules (count + 1) new
+TellsFirst-more modules count all connected new told is one =
+    subst (λ l. TellsFirst modules (count + 1) l) (sym is) (record {
+      one_each = length-append all (connected ∷ []) ∙ ap (λ n. n + 1) told.one_each;
+      tell = λ k lt. ⊎_elim
+          (λ (same : k ≡ count).
+          subst (λ l. TellsConnected (module_at modules k).statements l) (sym (get_or_at all connected [] [] k (told.one_each ∙ sym same)))
+          (subst (λ n. TellsConnected (module_at modules n).statements connected) (sym same) one))
+          (λ (other : k ≢ count).
+          let low : k < count = omega (arith, lt, other) in
+          subst (λ l. TellsConnected (module_at modules k).statements l) (sym (get_or_append_left all (connected ∷ []) [] k (omega (arith, low, told.one_each)))) (told.tell k low))
+          (cases_eq k count);
+    })

@@ -11,10 +11,10 @@ use Rattle.gg_net.specs.declared.shape.Station.{Station}
 use Rattle.gg_net.specs.Network.{Network, wire_at, kind_at, frame_of}
 use Rattle.gg_net.specs.Kept.{IsWired, Kept}
 use Rattle.gg_net.specs.inside.Net.{IsListed, AreListed}
-use Rattle.gg_workers_pass.specs.inside.SeatLists.{seat_at, RowPutBack, IsBack}
+use Rattle.gg_workers_pass.specs.inside.SeatLists.{seat_at, AreOnce, RowPutBack, IsBack}
 use Rattle.gg_workers_pass.specs.inside.Pass.{HasSeats}
 use Rattle.gg_workers_pass.specs.declared.machine_seats.MachineSeats.{MachineSeats}
-use Rattle.gg_workers_pass.proofs.AllLemmas.{in-listed, out-listed, ins-of, outs-of}
+use Rattle.gg_workers_pass.proofs.AllLemmas.{in-listed, out-listed, ins-once, outs-once, ins-of, outs-of}
 use Rattle.gg_workers_pass.proofs.AgainLemmas.{machine_seats-takes, machine_seats-puts}
 use Rattle.gg_workers_pass.specs.inside.Seats.{TakeSeatOf, PutSeatOf}
 use Rattle.gg_workers.specs.declared.host_seats.HostSeats.{HostSeats}
@@ -116,3 +116,22 @@ module _ {X S T : Type 0} (takes_from : X → S → Type 0) (puts_into : X → T
       (λ k lt. (outs-of (frame_of net) wired m s here k lt).1)
       (λ c lt to. let at = out-listed (frame_of net) wired m s here c lt to in ((wire_at net.wires c).out, at.0, at.1))
       (machine_seats-puts takes_from puts_into taking putting flow net machines links m s here machine_seats.takes.items machine_seats.puts.items seats)
+
+  -- a station's channels are those that the seats can be put back to
+  pub takes-once : (channels : List ℕ) → channels ≡ s.ins → AreOnce channels
+  takes-once channels same = subst AreOnce (sym same) (ins-once (frame_of net) wired m s here)
+
+  pub takes-long : (channels : List ℕ) → channels ≡ s.ins → length machine_seats.takes.items ≡ length channels
+  takes-long channels same = seats.takes.long ∙ ap length (sym same)
+
+  pub takes-within : (channels : List ℕ) (old : List (Option S)) → channels ≡ s.ins → length old ≡ length net.wires → (k : ℕ) → k < length channels → value_at channels k < length old
+  takes-within channels old same long = subst (λ (l : List ℕ). (k : ℕ) → k < length l → value_at l k < length old) (sym same) (λ k lt. subst (λ n. value_at s.ins k < n) (sym long) (ins-of (frame_of net) wired m s here k lt).0)
+
+  pub puts-once : (channels : List ℕ) → channels ≡ s.outs → AreOnce channels
+  puts-once channels same = subst AreOnce (sym same) (outs-once (frame_of net) wired m s here)
+
+  pub puts-long : (channels : List ℕ) → channels ≡ s.outs → length machine_seats.puts.items ≡ length channels
+  puts-long channels same = seats.puts.long ∙ ap length (sym same)
+
+  pub puts-within : (channels : List ℕ) (old : List (Option T)) → channels ≡ s.outs → length old ≡ length net.wires → (k : ℕ) → k < length channels → value_at channels k < length old
+  puts-within channels old same long = subst (λ (l : List ℕ). (k : ℕ) → k < length l → value_at l k < length old) (sym same) (λ k lt. subst (λ n. value_at s.outs k < n) (sym long) (outs-of (frame_of net) wired m s here k lt).0)

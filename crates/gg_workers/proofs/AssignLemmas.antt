@@ -6,6 +6,7 @@ use Rattle.std.specs.Prelude.{if◌then◌else◌}
 use Rattle.std.specs.Vec.{vec_capacity}
 use Rattle.gg_workers.specs.declared.worker.LinkedHost.{LinkedHost}
 use Rattle.gg_workers.specs.declared.worker.Worker.{Worker}
+use Rattle.gg_workers.specs.inside.Making.{AreIdle}
 use Rattle.gg_workers.specs.inside.Assigned.{share_of, IsOf, Assigning, IsFrom, Collecting}
 use Rattle.std.proofs.Math.Nat.{mod-lt}
 use Rattle.std.proofs.Common.{Some}
@@ -25,6 +26,19 @@ pub share_no : (w j h d : ℕ) → h % w ≢ j → share_of w j h (d + 1) ≡ sh
 share_no w j h d e = rw add-one (ap (λ b. share_of w j (h + 1) d ++ (if b then h ∷ [] else [])) (test_no (h % w) j e) ∙ append-nil (share_of w j (h + 1) d))
 
 module _ {H S T : Type 0} where
+  -- no host is assigned yet
+  pub assign_begin : (ss : List (LinkedHost H S T)) (ws : List (Worker H S T)) (w hosts : ℕ) → AreIdle w hosts ws → length ss ≡ hosts → Assigning ss (length ws) (length ss) 0 ss ws
+  assign_begin ss ws w hosts idle count =
+      record {
+        count = refl;
+        long = refl;
+        whole = omega arith;
+        same = λ k e lt. refl;
+        numbers = λ j e lt. ap (map (λ s. s.number)) (idle.none j e lt);
+        of_all = λ j k e f lt low. absurd (omega (arith, low, ap length (idle.none j e lt)));
+        room = λ j e lt. omega (arith, ap length (idle.none j e lt), idle.room j e lt, count);
+      }
+
   pub assign_step : (ss0 : List (LinkedHost H S T)) (w h d : ℕ) (old rest : List (LinkedHost H S T)) (s : LinkedHost H S T) (ws : List (Worker H S T)) (v u : Worker H S T)
       → Assigning ss0 w (h + 1) d old ws → old ≡ rest ++ s ∷ [] → length rest ≡ h → h % w < w → ((k : ℕ) (e : LinkedHost H S T) → k < length ss0 → (slice_index_or ss0 k e).number ≡ k)
       → ((e : Worker H S T) → slice_index_or ws (h % w) e ≡ v) → u.linked_hosts.items ≡ v.linked_hosts.items ++ s ∷ [] → vec_capacity u.linked_hosts ≡ vec_capacity v.linked_hosts

@@ -1,6 +1,8 @@
 -- Hosts that were given their seats are ready to run.
-use Rattle.std.proofs.Common.{◌≡◌, ℕ, ◌<◌, inl, List, [], length, map, slice_index_or, sym, ap, subst, ◌∙◌, arith}
-use Rattle.std.proofs.lemmas.List.{get_or-map, length-map}
+use Rattle.std.proofs.Common.{◌≡◌, ℕ, ◌+◌, ◌<◌, ◌≤◌, ◌∷◌, ◌++◌, inl, List, [], length, map, slice_index_or, sym, ap, subst, ◌∙◌, arith}
+use Rattle.std.specs.Vec.{vec_capacity}
+use Rattle.std.proofs.lemmas.List.{get_or-map, length-map, length-append}
+use Rattle.std.proofs.lemmas.List.Elements.{All-push}
 use Rattle.gg_flat.specs.Line.{value_at}
 use Rattle.gg_flat.specs.Streams.{Flow}
 use Rattle.gg_link.specs.Seats.{SeatState}
@@ -18,10 +20,11 @@ use Rattle.gg_workers_pass.proofs.EventLemmas.{some-of}
 use Rattle.gg_workers_pass.proofs.NetLemmas.{takes-placed, puts-placed}
 use Rattle.gg_workers_pass.proofs.WentLemmas.{went-nowhere}
 use Rattle.gg_workers.specs.declared.worker.LinkedHost.{LinkedHost}
+use Rattle.gg_workers.specs.declared.worker.Worker.{Worker}
 use Rattle.gg_workers.specs.declared.host_seats.HostSeats.{HostSeats}
 use Rattle.gg_workers.specs.inside.LinkedHosts.{ReadyAt, AreLinkedHosts}
 use Rattle.gg_workers.specs.inside.HostSeats.{IsFilledFor, seats_at, HasPlaces, EachMachine}
-use Rattle.gg_workers.specs.inside.Making.{HaveTheirSeats}
+use Rattle.gg_workers.specs.inside.Making.{HaveTheirSeats, AreIdle}
 use Rattle.gg_workers.proofs.ListLemmas.{get_default}
 
 module _ {X S T : Type 0} (takes_from : X → S → Type 0) (puts_into : X → T → Type 0) (taking : S → SeatState) (putting : T → SeatState) (flow : Flow) (net : Network) (kept : Kept flow net) (stations : List Station) (long : length stations ≡ length net.machines) (listed : AreListed (frame_of net) stations)
@@ -113,3 +116,12 @@ module _ {H S T : Type 0} (machines : H → List Machine) (P : ℕ → ℕ → M
         };
         count = long ∙ sym (ap (value_at threads) (f.number k b lt) ∙ ap (λ l. value_at l k) counts ∙ get_or-map (λ (l : List Machine). length l) (map machines hosts) k [] 0 in_machines);
       }
+
+-- one idle worker more
+pub idle-more : {H S T : Type 0} (count hosts : ℕ) (workers : List (Worker H S T)) (worker : Worker H S T) (new : List (Worker H S T)) → AreIdle count hosts workers → new ≡ workers ++ worker ∷ [] → worker.linked_hosts.items ≡ [] → hosts ≤ vec_capacity worker.linked_hosts → AreIdle (count + 1) hosts new
+idle-more {H} {S} {T} count hosts workers worker new idle is none room =
+    subst (λ (l : List (Worker H S T)). AreIdle (count + 1) hosts l) (sym is) (record {
+      long = length-append workers (worker ∷ []) ∙ ap (λ n. n + 1) idle.long;
+      none = All-push (λ (w : Worker H S T). w.linked_hosts.items ≡ []) workers worker idle.none none;
+      room = All-push (λ (w : Worker H S T). hosts ≤ vec_capacity w.linked_hosts) workers worker idle.room room;
+    })

@@ -77,14 +77,17 @@ fn reserve_all<H: Host, L: Link>(
         × (length shape.now.wires.items ≤ vec_capacity r.take_seats)) }
 {
     let channels = shape.wires.len();
-    let setup = reserve(alloc, hosts, &shape.stations, channels, workers)?;
+    let links = Vec::with_capacity(alloc, channels)?;
+    let put_seats = Vec::with_capacity(alloc, channels)?;
+    let take_seats = Vec::with_capacity(alloc, channels)?;
     let return_lists = new_return_lists(alloc, hosts.len(), channels)?;
+    let setup = reserve(alloc, hosts, &shape.stations, channels, workers)?;
     Ok(Reserve {
         setup,
         return_lists,
-        links: Vec::with_capacity(alloc, channels)?,
-        put_seats: Vec::with_capacity(alloc, channels)?,
-        take_seats: Vec::with_capacity(alloc, channels)?,
+        links,
+        put_seats,
+        take_seats,
     })
 }
 

@@ -80,11 +80,11 @@ pub(crate) fn reserve<H: Host, S: Drop, T: Drop>(
     ensures { IfOk result (λ setup. IsReserved (map H.machines hosts.now) stations.now channels workers setup) }
 {
     let threads = thread_counts(alloc, hosts)?;
-    let rows = reserve_seats::<H, S, T>(alloc, hosts, stations)?;
     let takes = Vec::with_capacity(alloc, channels)?;
     let puts = Vec::with_capacity(alloc, channels)?;
     let linked_hosts = Vec::with_capacity(alloc, hosts.len())?;
     let workers = idle_workers::<H, S, T>(alloc, workers, hosts.len())?;
+    let rows = reserve_seats::<H, S, T>(alloc, hosts, stations)?;
     Ok(Setup {
         threads,
         rows,
