@@ -2,7 +2,7 @@ use Rattle.std.proofs.Common.{◌≡◌, length, arith, subst, sym}
 use Rattle.gg_flat.specs.Memory.{AreBanks}
 use Rattle.gg_flat.proofs.BankLemmas.{AreBanks-next}
 use Rattle.gg_order.proofs.RunsLemmas.LateLemmas.{BanksSoFar, BanksSoFar-all}
-use Rattle.gg_order.proofs.runs.state.advance_banks.Goals as goal
+use Rattle.gg_order.proofs.runs.state.next_contents.Goals as goal
 
 pub returns-clause-next : goal.returns-clause-next
 returns-clause-next c =
