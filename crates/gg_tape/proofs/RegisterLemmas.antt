@@ -1,5 +1,5 @@
 -- Registers: what is added to a tape changes none of those before it, and what the instructions of their lines give.
-use Rattle.std.proofs.Common.{◌≡◌, ◌≢◌, ℕ, ◌<◌, ◌≤◌, ◌+◌, List, [], ◌∷◌, ◌++◌, length, get_or, refl, sym, ◌∙◌, ap, subst, arith, below_more}
+use Rattle.std.proofs.Common.{◌≡◌, ◌≢◌, ℕ, ◌<◌, ◌≤◌, ◌+◌, List, [], ◌∷◌, ◌++◌, length, get_or, refl, sym, ◌∙◌, ap, ap₂, subst, arith, below_more}
 use Rattle.std.specs.Prelude.{Bool, true, false, Option, Some, None, MatchOption, ⊤, max, ◌==◌, if◌then◌else◌}
 use Rattle.std.proofs.Math.Nat.{le-max_left, le-max_right}
 use Rattle.std.proofs.lemmas.Bool.Decides.{Decides-eqb}
@@ -11,7 +11,8 @@ use Rattle.gg_flat.specs.declared.piece.Reset.{Reset}
 use Rattle.gg_flat.specs.Line.{IsSource, line_value, connected_value}
 use Rattle.gg_flat.specs.inside.Line.{HasValue}
 use Rattle.gg_flat.specs.Circuit.{FlatCircuit}
-use Rattle.gg_flat.specs.State.{connected_or, reset_or}
+use Rattle.gg_flat.specs.Memory.{Bank}
+use Rattle.gg_flat.specs.State.{State, connected_or, reset_or}
 use Rattle.gg_flat.specs.WellFormed.{IsReset}
 use Rattle.gg_order.specs.runs.Room.{next_length, reset_length}
 use Rattle.gg_tape.specs.declared.code.Stretch.{Stretch}
@@ -123,3 +124,12 @@ reset-gives code sink taped cells reset is may room =
           sym (if-other (line_value cells.values own.condition) (connected_value cells.values sink own.init) other none)
           ∙ sym (ap (λ (o : Option Reset). reset_or cells.values sink o other) at);
     }
+
+-- ---- states
+
+abbrev the-state : List ℕ → List Bank → State
+the-state registers banks = record { registers = registers; banks = banks }
+
+-- two that have the same registers and banks are the same
+pub State-same : {r s : List ℕ} {a b : List Bank} → r ≡ s → a ≡ b → the-state r a ≡ the-state s b
+State-same registers banks = ap₂ the-state registers banks
