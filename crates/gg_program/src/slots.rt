@@ -16,7 +16,7 @@ use crate::evaluate::{work_out, work_rest};
 use crate::search::{Search, are_marked};
 use crate::steps::Steps;
 use gg_flat::Piece;
-use gg_order::{State, zeros};
+use gg_order::State;
 use gg_tape::{Cells, Tape};
 use std::alloc::{AllocError, Global};
 use std::marker::Model;
@@ -26,8 +26,6 @@ use std::sync::ledger::Ledger;
 /// nodes of a line.
 pub struct Slots {
     cells: Cells,
-    // the scratch space for the lines of registers
-    room: Vec<u128>,
     search: Search,
     // how often an input was put in this cycle
     puts: usize,
@@ -39,13 +37,11 @@ impl Drop for Slots {
     fn drop(self) {
         let Self {
             cells,
-            room,
             search,
             puts: _,
             whole: _,
         } = self;
         drop(cells);
-        drop(room);
         drop(search);
     }
 }
@@ -59,7 +55,7 @@ impl Model for Slots {
 
     ghost view = { λ slots. record { values = slots.cells.values; done = slots.search.marks; room = slots.cells.room } };
 
-    ghost invariant = { λ slots. (slots.search.found ≡ []) × (slots.whole ≡ true → IsFull slots.search.marks) × (length slots.room.items ≡ slots.cells.room) };
+    ghost invariant = { λ slots. (slots.search.found ≡ []) × (slots.whole ≡ true → IsFull slots.search.marks) };
 }
 
 impl Slots {
@@ -70,11 +66,9 @@ impl Slots {
         ensures room { IfOk result (λ slots. slots.room ≡ room) }
     {
         let cells = Cells::new(alloc, count, room)?;
-        let room = zeros(alloc, room)?;
         let search = Search::new(alloc, count)?;
         Ok(Slots {
             cells,
-            room,
             search,
             puts: 0,
             whole: false,
@@ -247,7 +241,7 @@ impl Slots {
         ensures steps { steps.new ≡ steps.old + unset piece.now self.old }
     {
         self.rest(piece, tape, state, steps);
-        state.advance(piece, edges, self.cells.values(), self.room.as_mut_slice());
+        tape.advance(piece, state, edges, &mut self.cells);
         self.clear();
     }
 }
