@@ -12,7 +12,7 @@ ghost use Rattle.gg_refsim.specs.inside.Cycle.{begun};
 
 use gg_clocks::{Ratio, Timing};
 use gg_flat::Piece;
-use gg_order::{Design, State, room_of, scratch_of};
+use gg_order::{Design, State};
 use gg_tape::{Cells, Tape};
 use std::alloc::{AllocError, Global};
 use std::error::Error;
@@ -52,8 +52,6 @@ pub struct Mono<'a> {
     state: State,
     tape: Tape,
     cells: Cells,
-    // The scratch space for the lines of registers.
-    scratch: Vec<u128>,
 }
 
 impl Drop for Mono<'_> {
@@ -64,18 +62,15 @@ impl Drop for Mono<'_> {
             state,
             tape,
             cells,
-            scratch,
         } = self;
         drop(timing);
         drop(state);
         drop(tape);
         drop(cells);
-        drop(scratch);
     }
 }
 
 impl<'a> Model for Mono<'a> {
-    ghost use Rattle.std.specs.Prelude.{length};
     ghost use Rattle.gg_refsim.specs.inside.Cycle.{Simulation};
     ghost use Rattle.gg_refsim.specs.inside.Kept.{IsKept};
 
@@ -83,7 +78,7 @@ impl<'a> Model for Mono<'a> {
 
     ghost view = { λ mono. record { circuit = mono.design.now.circuit; ratios = mono.timing.ratios; cycle = mono.timing.tick; state = mono.state } };
 
-    ghost invariant = { λ mono. IsKept mono.design.now mono.state mono.tape mono.cells (length mono.scratch.items) };
+    ghost invariant = { λ mono. IsKept mono.design.now mono.state mono.tape mono.cells };
 }
 
 impl<'a> Mono<'a> {
@@ -103,8 +98,7 @@ impl<'a> Mono<'a> {
         let piece = design.piece();
         let state = State::new(alloc, piece)?;
         let tape = Tape::of(alloc, piece, design.order())?;
-        let cells = Cells::new(alloc, piece.signal_count(), room_of(piece))?;
-        let scratch = scratch_of(alloc, piece)?;
+        let cells = Cells::of(alloc, piece)?;
         let timing = Timing::new(alloc, ratios, 0)?;
         Ok(Mono {
             design,
@@ -112,7 +106,6 @@ impl<'a> Mono<'a> {
             state,
             tape,
             cells,
-            scratch,
         })
     }
 
@@ -164,8 +157,8 @@ impl<'a> Mono<'a> {
             .settle(piece, &self.state, inputs, &mut self.cells);
         read_outs(piece.outs(), self.cells.values(), outs);
         let edges = self.timing.edges();
-        self.state
-            .advance(piece, edges, self.cells.values(), &mut self.scratch);
+        self.tape
+            .advance(piece, &mut self.state, edges, &mut self.cells);
         self.timing.advance();
     }
 }

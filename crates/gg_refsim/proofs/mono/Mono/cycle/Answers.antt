@@ -7,4 +7,4 @@ pub returns-clause-only : goal.returns-clause-only
 returns-clause-only c =
     let row = c.settle.new.cells.values in
     rw (← c.self.view_is) (λ printed after other. Cycle-once (edges_at c.self.inside.timing.ratios c.self.inside.timing.tick) _ c.self.inside.design.now.order _ _ _ _ _ _ c.order.ensures.ordered other
-    (Cycle-of (edges_at c.self.inside.timing.ratios c.self.inside.timing.tick) _ _ _ row _ _ (rw c.piece-piece.ensures.circuit at c.settle.ensures.settled) (rw (← c.piece-piece.ensures.circuit, ← c.outs.ensures, ← c.values.ensures) c.read_outs.ensures) (rw (← c.piece-piece.ensures.circuit, ← c.values-2.ensures, ← c.edges-edges.ensures) c.advance.ensures.next)))
+    (Cycle-of (edges_at c.self.inside.timing.ratios c.self.inside.timing.tick) _ _ _ row _ _ (rw c.piece-piece.ensures.circuit at c.settle.ensures.settled) (rw (← c.piece-piece.ensures.circuit, ← c.outs.ensures, ← c.values.ensures) c.read_outs.ensures) (rw (← c.piece-piece.ensures.circuit, ← c.edges-edges.ensures) c.advance.ensures.next)))
