@@ -18,8 +18,9 @@ use gg_cut::cut;
 use gg_cut_plan::{Models, Plan};
 use gg_measure::run_to_end;
 use gg_net::{Net, Streams};
-use gg_order::{Design, State, scratch_of, signal_zeros};
+use gg_order::{Design, State};
 use gg_partfile::Request;
+use gg_tape::{Cells, Tape};
 use gg_trace::Trace;
 use std::alloc::{AllocError, Global};
 use std::marker::Brand;
@@ -43,12 +44,11 @@ fn advance(
     let _ = inputs.rows();
     let piece = design.piece();
     let timing = Timing::new(alloc, ratios, cycle)?;
-    let mut signals = signal_zeros(alloc, piece)?;
-    let mut scratch = scratch_of(alloc, piece)?;
-    let order = design.order();
+    let tape = Tape::of(alloc, piece, design.order())?;
+    let mut cells = Cells::of(alloc, piece)?;
     let row = inputs.row(cycle);
-    state.settle(piece, order, row, &mut signals, &mut scratch);
-    state.advance(piece, timing.edges(), &signals, &mut scratch);
+    tape.settle(piece, state, row, &mut cells);
+    tape.advance(piece, state, timing.edges(), &mut cells);
     Ok(())
 }
 

@@ -1,4 +1,4 @@
-//! gg_flat, gg_order, gg_program and gg_fame1: calls on the circuit of a design.
+//! gg_flat, gg_order, gg_tape, gg_program and gg_fame1: calls on the circuit of a design.
 ghost use Rattle.std.specs.Prelude.{◌≡◌, [], length};
 ghost use Rattle.gg_flat.specs.WellFormed.{IsWellFormed};
 ghost use Rattle.gg_flat.specs.InOrder.{IsInOrder};
@@ -9,9 +9,10 @@ use gg_bits::{Kind, Name, Ty};
 use gg_fame1::{NoMemory, Unit};
 use gg_flat::Piece;
 use gg_node::Host;
-use gg_order::{Design, State, needs_of, scratch_of, signal_zeros};
+use gg_order::{Design, State, needs_of};
 use gg_program::Program;
 use gg_refsim::is_well_formed;
+use gg_tape::{Cells, Tape};
 use std::alloc::{AllocError, Global};
 
 // Whether a piece is well formed and has the register `r` as its second signal, no input, and its first signal as its output.
@@ -32,13 +33,13 @@ fn has_values(alloc: Global, design: &Design, first: u128, second: u128) -> Resu
 {
     let piece = design.piece();
     let mut state = State::new(alloc, piece)?;
-    let mut scratch = scratch_of(alloc, piece)?;
-    let mut signals = signal_zeros(alloc, piece)?;
-    state.settle(piece, design.order(), &[], &mut signals, &mut scratch);
-    let found = signals[0];
-    state.advance(piece, &[], &signals, &mut scratch);
-    state.settle(piece, design.order(), &[], &mut signals, &mut scratch);
-    Ok(found == first && signals[0] == second)
+    let tape = Tape::of(alloc, piece, design.order())?;
+    let mut cells = Cells::of(alloc, piece)?;
+    tape.settle(piece, &state, &[], &mut cells);
+    let found = cells.values()[0];
+    tape.advance(piece, &mut state, &[], &mut cells);
+    tape.settle(piece, &state, &[], &mut cells);
+    Ok(found == first && cells.values()[0] == second)
 }
 
 // Whether a design is the toggle, which is 0 and then 1.
