@@ -14,7 +14,6 @@ mod check;
 mod check_clocks;
 mod check_memory;
 mod laws;
-mod scratch;
 mod mono;
 
 pub use check::is_well_formed;
