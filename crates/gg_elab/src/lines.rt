@@ -46,11 +46,13 @@ fn is_bit(ty: Ty) -> bool
 fn cut(line: Line, taken: bool, sink: Ty) -> Result<Line, AllocError>
     ensures { IfOk result (IsCut taken line (shape sink)) }
 {
+    let mut line = line;
     if taken {
+        line.shrink_to_fit();
         return Ok(line);
     }
-    let mut line = line;
     add_zero_of(&mut line, sink)?;
+    line.shrink_to_fit();
     Ok(line)
 }
 
@@ -88,7 +90,7 @@ fn zero_line(alloc: Global, scope: &Scope, ty: Ty) -> Result<Line, AllocError>
 {
     // for the invariant only
     let _ = scope.number;
-    let mut line = Line::new(alloc);
+    let mut line = Line::with_capacity(alloc, 1)?;
     add_zero_of(&mut line, ty)?;
     Ok(line)
 }

@@ -5,7 +5,6 @@ pub mod OrderLemmas
 pub mod NumberLemmas
 pub mod TypedLemmas
 pub mod LineLemmas
-pub mod FormLemmas
 pub mod AdvanceLemmas
 pub mod WordLemmas
 pub mod BankLemmas

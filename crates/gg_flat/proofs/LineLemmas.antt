@@ -4,7 +4,6 @@ use Rattle.std.specs.Prelude.{fold}
 use Rattle.std.proofs.lemmas.List.{get_or-take, take_more_set, take_all, get_or-map, get_or-set_same, get_or-set_other, get_or_at, length-set, length-append, length-take-le}
 use Rattle.std.proofs.lemmas.List.Sums.{fold_more}
 use Rattle.gg_bits.specs.Shape.{Shape, Fits}
-use Rattle.gg_bits.specs.declared.types.Val.{Val}
 use Rattle.gg_flat.specs.declared.line.Node.{Node}
 use Rattle.gg_flat.specs.declared.line.Op.{Op}
 use Rattle.gg_flat.specs.declared.line.Op.TheVariants.{Ref, Literal, One, Two, Fix, Mux}
@@ -22,7 +21,7 @@ pub HoldsNodes-none : (nodes : List Node) (signals : List ℕ) (value : ℕ) (sc
 HoldsNodes-none nodes signals value scratch room = record { room = room; values = refl; fits = λ i before. absurd (omega arith); last = λ some. absurd (omega arith) }
 
 -- an operation at place k uses no value from place k on
-pub op_value-take : (signals : List ℕ) (shapes : List Shape) (before : List ℕ) (k : ℕ) (to : Shape) (op : Op) → HasShape (HasValue signals) shapes k to op → op_value signals shapes before op ≡ op_value signals shapes (take k before) op
+op_value-take : (signals : List ℕ) (shapes : List Shape) (before : List ℕ) (k : ℕ) (to : Shape) (op : Op) → HasShape (HasValue signals) shapes k to op → op_value signals shapes before op ≡ op_value signals shapes (take k before) op
 op_value-take signals shapes before k to (Ref s) has = refl
 op_value-take signals shapes before k to (Literal value) has = refl
 op_value-take signals shapes before k to (One op i) has = rw (get_or-take k before i 0 has.0)
@@ -31,7 +30,7 @@ op_value-take signals shapes before k to (Fix op i n m) has = rw (get_or-take k 
 op_value-take signals shapes before k to (Mux c i j) has = rw (get_or-take k before c 0 has.0, get_or-take k before i 0 has.1, get_or-take k before j 0 has.2)
 
 -- some node of a line that isn't empty
-pub some-node : (nodes : List Node) (k : ℕ) → k < length nodes → Node
+some-node : (nodes : List Node) (k : ℕ) → k < length nodes → Node
 some-node [] k within = absurd (omega arith)
 some-node (node ∷ nodes) k within = node
 
@@ -78,39 +77,3 @@ HoldsNodes-fits nodes signals k value scratch end some holds =
     let place : k - 1 ≡ length nodes - 1 = omega (arith, end) in
     subst (Fits (line_shape nodes)) (holds.last (omega (arith, end, some)))
     (subst (λ i. Fits (shape_at (shapes_of nodes) i) (value_at scratch (k - 1))) place (holds.fits (k - 1) before))
-
--- each node gives one value
-node_values-length : (signals : List ℕ) (shapes : List Shape) (nodes : List Node) (values : List ℕ) → length (fold (with_node signals shapes) values nodes) ≡ length values + length nodes
-node_values-length signals shapes [] values = omega arith
-node_values-length signals shapes (node ∷ nodes) values =
-    let rest : length (fold (with_node signals shapes) values (node ∷ nodes)) ≡ length (with_node signals shapes values node) + length nodes = node_values-length signals shapes nodes (with_node signals shapes values node) in
-    let one : length (with_node signals shapes values node) ≡ length values + 1 = length-append values (op_value signals shapes values node.op ∷ []) in
-    let sum : length values + 1 + length nodes ≡ length values + length (node ∷ nodes) = omega arith in
-    rest ∙ ap (λ n. n + length nodes) one ∙ sum
-
--- the value of a line is that of its last node
-pub line_value-last : (signals : List ℕ) (nodes : List Node) → 0 < length nodes → line_value signals nodes ≡ op_value signals (shapes_of nodes) (node_values signals (shapes_of nodes) (take (length nodes - 1) nodes)) (op_at nodes (length nodes - 1))
-line_value-last signals nodes some =
-    let k = length nodes - 1 in
-    let within : k < length nodes = omega (arith, some) in
-    let last = some-node nodes k within in
-    let before = node_values signals (shapes_of nodes) (take k nodes) in
-    let all : take (k + 1) nodes ≡ nodes = take_all (k + 1) nodes (omega arith) in
-    let op : op_at nodes k ≡ (get_or nodes k last).op = get_or-map (λ node. node.op) nodes k last (Ref 0) within in
-    let count : length before ≡ k = omega (arith, node_values-length signals (shapes_of nodes) (take k nodes) [], length-take-le k nodes (omega arith)) in
-    ap (λ taken. value_at (node_values signals (shapes_of nodes) taken) k) (sym all)
-    ∙ ap (λ values. value_at values k) (fold_more (with_node signals (shapes_of nodes)) [] nodes k last within)
-    ∙ get_or_at before (op_value signals (shapes_of nodes) before (get_or nodes k last).op) [] 0 k count
-    ∙ ap (op_value signals (shapes_of nodes) before) (sym op)
-
--- where this is a reference, it is the signal's value
-pub line_value-ref : (signals : List ℕ) (nodes : List Node) (s : ℕ) → 0 < length nodes → op_at nodes (length nodes - 1) ≡ Ref s → line_value signals nodes ≡ value_at signals s
-line_value-ref signals nodes s some is =
-    let before = node_values signals (shapes_of nodes) (take (length nodes - 1) nodes) in
-    line_value-last signals nodes some ∙ ap (op_value signals (shapes_of nodes) before) is
-
--- where it is a literal, it is that literal
-pub line_value-literal : (signals : List ℕ) (nodes : List Node) (value : Val) → 0 < length nodes → op_at nodes (length nodes - 1) ≡ Literal value → line_value signals nodes ≡ value.0
-line_value-literal signals nodes value some is =
-    let before = node_values signals (shapes_of nodes) (take (length nodes - 1) nodes) in
-    line_value-last signals nodes some ∙ ap (op_value signals (shapes_of nodes) before) is

@@ -1,5 +1,4 @@
 -- Definitions that no promise of the program reaches: for single functions, and for proofs.
-pub mod Form
 pub mod Along
 pub mod InOrder
 pub mod Line

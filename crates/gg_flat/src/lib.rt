@@ -6,19 +6,14 @@
 //! the state after a cycle, and what a run is. They use no order of evaluation. gg_refsim checks whether a circuit is
 //! well formed, gg_order works out cycles and runs and has their laws, and gg_flat_tree has the trees of instances.
 //!
-//! A `Piece` is a flat circuit, built signal by signal; `Piece::copy` returns an equal one. `Line::value` returns the
-//! value of a line without allocating, in scratch space (gg_order's `scratch_of`). `in_ports` and `out_ports` return
-//! its ports.
+//! A `Piece` is a flat circuit, built signal by signal; `Piece::copy` returns an equal one. `in_ports` and `out_ports`
+//! return its ports. gg_tape works out the values of lines.
 //!
 //! A `Renames`, such as `Lists`, maps signals, registers and memories to other numbers. `renamed_driver`,
 //! `renamed_register` and `renamed_memory` return a driver, a register and a memory under these numbers
 //! (`specs/Renaming`).
 #![tactic(auto)]
 
-mod by_form;
-mod evaluate;
-mod form;
-mod forming;
 mod line;
 mod memory;
 mod piece;
@@ -27,8 +22,7 @@ mod renamed;
 mod renames;
 mod streams;
 
-pub use evaluate::{op_of, type_of};
-pub use line::{Line, Node, Op};
+pub use line::{Line, Node, Op, op_of, type_of};
 pub use memory::{Latency, Memory, Reader, Readers, UnderWrite, Writer, Writers, address_width};
 pub use piece::{Driver, Piece, Register, Reset, Signal};
 pub use ports::{Port, Ports};

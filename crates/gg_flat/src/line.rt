@@ -1,9 +1,8 @@
 //! Lines: the expression of a signal's value, as a list of nodes.
-ghost use Rattle.std.specs.Prelude.{◌≡◌, [], ◌∷◌, ◌++◌, length, OnOk, OnErr};
-ghost use Rattle.gg_flat.specs.inside.Form.{IsForm};
+ghost use Rattle.std.specs.Prelude.{◌≡◌, ◌<◌, [], ◌∷◌, ◌++◌, length, IfOk, OnOk, OnErr};
+ghost use Rattle.gg_bits.specs.Shape.{shape};
+ghost use Rattle.gg_flat.specs.Line.{shape_at, shapes_of, op_at, line_shape};
 
-use crate::form::Form;
-use crate::forming::form_of;
 use gg_bits::{Op1, Op2, OpN, Ty, Val};
 use std::alloc::{AllocError, Global};
 use std::marker::Model;
@@ -42,13 +41,11 @@ pub struct Node {
 /// A contract sees it as the list of its nodes.
 pub struct Line {
     nodes: Vec<Node>,
-    // The form of the nodes, for a quick evaluation.
-    form: Form,
 }
 
 impl Drop for Line {
     fn drop(self) {
-        let Self { nodes, form: _ } = self;
+        let Self { nodes } = self;
         drop(nodes);
     }
 }
@@ -56,13 +53,10 @@ impl Drop for Line {
 impl Model for Line {
     ghost use Rattle.std.specs.Prelude.{List};
     ghost use Rattle.gg_flat.specs.declared.line.Node.{Node};
-    ghost use Rattle.gg_flat.specs.inside.Form.{IsForm};
 
     ghost Value = { List Node };
 
     ghost view = { λ line. line.nodes.items };
-
-    ghost invariant = { λ line. IsForm line.nodes.items line.form };
 }
 
 impl Clone for Line {
@@ -71,7 +65,6 @@ impl Clone for Line {
     fn clone(&self) -> Result<Line, AllocError> {
         Ok(Line {
             nodes: self.nodes.clone()?,
-            form: self.form,
         })
     }
 }
@@ -83,8 +76,20 @@ impl Line {
     {
         Line {
             nodes: Vec::new(alloc),
-            form: Form::Long,
         }
+    }
+
+    /// The line without a node, with room for this many.
+    ///
+    /// # Errors
+    ///
+    /// Returns `AllocError` if an allocation fails.
+    pub fn with_capacity(alloc: Global, nodes: usize) -> Result<Line, AllocError>
+        ensures { IfOk result (λ line. line ≡ []) }
+    {
+        Ok(Line {
+            nodes: Vec::with_capacity(alloc, nodes)?,
+        })
     }
 
     /// Adds a node at the end.
@@ -97,8 +102,14 @@ impl Line {
         ensures err { OnErr result (self.new ≡ self.old) }
     {
         self.nodes.push(node)?;
-        self.form = form_of(self.nodes.as_slice());
         Ok(())
+    }
+
+    /// Gives back the room that no node takes.
+    pub fn shrink_to_fit(&mut self)
+        ensures { self.new ≡ self.old }
+    {
+        self.nodes.shrink_to_fit();
     }
 
     /// How many nodes there are.
@@ -115,10 +126,28 @@ impl Line {
         self.nodes.as_slice()
     }
 
-    // The form of the nodes.
-    pub(crate) fn form(&self) -> &Form
-        ensures { IsForm self.now result.now }
+    /// The type of the result.
+    pub fn ty(&self) -> Ty
+        requires { 0 < length self.now }
+        ensures { shape result ≡ line_shape self.now }
     {
-        &self.form
+        let nodes = self.as_slice();
+        nodes[nodes.len() - 1].ty
     }
+}
+
+/// The type of a node.
+pub fn type_of(nodes: &[Node], i: usize) -> Ty
+    requires { i < length nodes.now }
+    ensures { shape result ≡ shape_at (shapes_of nodes.now) i }
+{
+    nodes[i].ty
+}
+
+/// The operation of a node.
+pub fn op_of(nodes: &[Node], k: usize) -> &Op
+    requires { k < length nodes.now }
+    ensures { result.now ≡ op_at nodes.now k }
+{
+    &nodes[k].op
 }

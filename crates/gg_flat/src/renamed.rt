@@ -28,7 +28,7 @@ fn renamed_op<R: Renames>(by: &R, op: Op) -> Op
 pub fn renamed_line<R: Renames>(alloc: Global, by: &R, line: &Line) -> Result<Line, AllocError>
     ensures { IfOk result (λ own. own ≡ renamed_line (R.numbers by.now).signals line.now) }
 {
-    let mut own = Line::new(alloc);
+    let mut own = Line::with_capacity(alloc, line.len())?;
     for node in line.as_slice() {
         own.push(Node {
             ty: node.ty,

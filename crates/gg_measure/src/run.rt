@@ -7,7 +7,7 @@ ghost use Rattle.gg_measure.specs.inside.Turns.{HasGoneRound};
 
 use crate::order::Order;
 use crate::pass::pass;
-use crate::turn::round;
+use crate::turn::{fire_round, round};
 use gg_net::{Net, Streams};
 use gg_node::Host;
 
@@ -102,35 +102,67 @@ fn settle<H: Host, Z: Streams>(net: &mut Net<H, Z>, order: &mut Order, upto: u64
     }
 }
 
+// The fires of each machine that is below `upto`, as far as they need no further token.
+fn fire_first<H: Host, Z: Streams>(net: &mut Net<H, Z>, order: &mut Order, upto: u64, _cycle: u64)
+    requires { upto ≤ _cycle }
+    ensures { HasRun _cycle net.old net.new }
+{
+    fire_round(net, order, upto);
+}
+
+// `fire_first`, if the order is for workers.
+fn begin_cycle<H: Host, Z: Streams>(
+    net: &mut Net<H, Z>,
+    order: &mut Order,
+    upto: u64,
+    cycle: u64,
+    for_workers: bool,
+)
+    requires { upto ≤ cycle }
+    ensures { HasRun cycle net.old net.new }
+{
+    if for_workers {
+        fire_first(net, order, upto, cycle);
+    }
+}
+
 // Brings all machines to one cycle, and then to the next one, and notes these last steps.
-fn note<H: Host, Z: Streams>(net: &mut Net<H, Z>, order: &mut Order, cycle: u64)
+fn note<H: Host, Z: Streams>(net: &mut Net<H, Z>, order: &mut Order, cycle: u64, for_workers: bool)
     ensures { HasRun cycle net.old net.new }
 {
     let level = highest(net).min(cycle);
+    let next = level.saturating_add(1).min(cycle);
     settle(net, order, level, cycle);
     order.open();
-    settle(net, order, level.saturating_add(1).min(cycle), cycle);
+    begin_cycle(net, order, next, cycle, for_workers);
+    settle(net, order, next, cycle);
     order.close();
 }
 
 // Notes an order, if it is empty.
-fn note_first<H: Host, Z: Streams>(net: &mut Net<H, Z>, order: &mut Order, cycle: u64)
+fn note_first<H: Host, Z: Streams>(
+    net: &mut Net<H, Z>,
+    order: &mut Order,
+    cycle: u64,
+    for_workers: bool,
+)
     ensures { HasRun cycle net.old net.new }
 {
     if order.is_empty() {
-        note(net, order, cycle);
+        note(net, order, cycle, for_workers);
     }
 }
 
 /// Brings all machines to one cycle, and then to the next one, but none past `cycle`, and notes these last steps in the
-/// order. Does nothing if the order has steps.
+/// order, for workers. At first each machine gives what needs no token of this cycle: a worker in its own part of the order
+/// then waits for no token that could be there already. Does nothing if the order has steps.
 pub fn note_cycle<H: Host, Z: Streams>(net: &mut Net<H, Z>, order: &mut Order, cycle: u64)
     ensures steps { HasRun cycle net.old net.new }
     ensures bounds { StaysWithin cycle net.old net.new }
     ensures frame { frame_of net.new ≡ frame_of net.old }
 {
     net.kept();
-    note_first(net, order, cycle);
+    note_first(net, order, cycle, true);
 }
 
 // Goes by an order as long as a pass over it does anything.
@@ -169,6 +201,6 @@ pub fn run_by<H: Host, Z: Streams>(net: &mut Net<H, Z>, order: &mut Order, cycle
     ensures frame { frame_of net.new ≡ frame_of net.old }
 {
     net.kept();
-    note_first(net, order, cycle);
+    note_first(net, order, cycle, false);
     run_noted(net, order, cycle);
 }

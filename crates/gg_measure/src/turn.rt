@@ -1,4 +1,4 @@
-//! The turn of a machine, and a round of turns.
+//! The turn of a machine, a round of turns, and a round of fires.
 ghost use Rattle.std.specs.Prelude.{◌≡◌, ℕ, ◌<◌, false, length, MatchBool};
 ghost use Rattle.gg_node.specs.Machine.{machine_at};
 ghost use Rattle.gg_measure.specs.inside.Nets.{IsAtWork, IsIdle, NoLatch, NoFire, NoServe, Goes};
@@ -137,6 +137,41 @@ pub(crate) fn round<H: Host, Z: Streams>(net: &mut Net<H, Z>, order: &mut Order,
     let mut moved = false;
     for machine in 0..count {
         let done = turn_below(net, order, machine as u32, cycle);
+        moved = either(moved, done);
+    }
+    moved
+}
+
+// The fires of a machine, if it is below a cycle. Returns whether anything was done.
+fn fire_below<H: Host, Z: Streams>(
+    net: &mut Net<H, Z>,
+    order: &mut Order,
+    machine: u32,
+    cycle: u64,
+) -> bool
+    requires there { machine < length net.old.machines }
+    ensures { Goes cycle net.old result net.new }
+{
+    if net.cycle(machine) >= cycle {
+        return false;
+    }
+    fire_all(net, order, machine, cycle)
+}
+
+// The fires of each machine that is below a cycle, by number, as far as they need no further token. Returns whether
+// anything was done.
+pub(crate) fn fire_round<H: Host, Z: Streams>(
+    net: &mut Net<H, Z>,
+    order: &mut Order,
+    cycle: u64,
+) -> bool
+    ensures { Goes cycle net.old result net.new }
+{
+    net.within_limits();
+    let count = net.machines();
+    let mut moved = false;
+    for machine in 0..count {
+        let done = fire_below(net, order, machine as u32, cycle);
         moved = either(moved, done);
     }
     moved

@@ -30,7 +30,7 @@ pub use laws::orders_are_found;
 pub use needs::needs_of;
 pub use ordering::{Order, order};
 pub use runs::{
-    Bank, State, all_served, depends_on_reached, driver_value, no_loop, one_served, room_of,
-    run_once, runs_along, runs_on, runs_split, scratch_of, settled_once, settles_along,
-    signal_zeros, states_typed, ticks, values_agree, zeros,
+    Bank, State, all_served, depends_on_reached, no_loop, one_served, room_of, run_once,
+    runs_along, runs_on, runs_split, settled_once, settles_along, states_typed, ticks,
+    values_agree, zeros,
 };

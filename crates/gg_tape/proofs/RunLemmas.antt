@@ -16,8 +16,8 @@ use Rattle.gg_tape.specs.declared.instruction.Operation.{Operation}
 use Rattle.gg_tape.specs.declared.instruction.Operation.TheVariants.{Take, Constant, Apply1, Apply2, ApplyConst, Choose}
 use Rattle.gg_tape.specs.declared.instruction.Instruction.{Instruction}
 use Rattle.gg_tape.specs.inside.Instruction.{small, IsOperand, given, CanDo}
-use Rattle.gg_tape.specs.inside.Told.{IsRef, cell_by, cell_of, IsOf, DoesOp, Does, IsNext, Told, CanRun}
-use Rattle.gg_tape.proofs.TypeLemmas.{IsMux, mux-is}
+use Rattle.gg_tape.specs.inside.Told.{IsRef, cell_by, cell_of, IsOf, DoesOp, IsNext, Told, CanRun}
+use Rattle.gg_tape.proofs.TypeLemmas.{mux-is}
 
 -- The cells of signals have the values `signals`, and there is room for the nodes behind them.
 pub record Stands (nodes : List Node) (n : ℕ) (signals cells : List ℕ) : Type 0 where

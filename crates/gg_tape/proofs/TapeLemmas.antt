@@ -1,164 +1,129 @@
--- Tapes: what is added at the end changes nothing before it, and what a stretch gives.
-use Rattle.std.proofs.Common.{◌≡◌, ℕ, ◌<◌, ◌≤◌, ◌+◌, ◌-◌, List, [], ◌∷◌, ◌++◌, length, take, drop, set, map, get_or, inl, inr, refl, sym, ◌∙◌, ap, ap₂, subst, arith, below_more}
+-- Tapes: what is added at the end changes nothing before it, and what a signal's origin gives.
+use Rattle.std.proofs.Common.{◌≡◌, ℕ, ◌<◌, ◌≤◌, ◌+◌, List, [], ◌∷◌, ◌++◌, length, set, map, get_or, refl, sym, ◌∙◌, ap, subst, arith, below_more}
 use Rattle.std.specs.Prelude.{All}
-use Rattle.std.proofs.lemmas.Bool.Decides.{leb_tells}
-use Rattle.std.proofs.lemmas.List.{append-nil, length-append, length-drop, length-map, get_or-map, get_or_at, get_or_append_left, take-append-le, drop-append-le, take_all, drop_all}
+use Rattle.std.proofs.lemmas.List.{length-append, length-map, get_or-map, get_or_at, get_or_append_left}
 use Rattle.std.proofs.lemmas.List.Elements.{All-push}
-use Rattle.gg_bits.specs.Shape.{Shape, shape}
-use Rattle.gg_flat.specs.declared.line.Op.{Op}
-use Rattle.gg_flat.specs.declared.line.Op.TheVariants.{Ref, Literal, One, Two, Fix, Mux}
+use Rattle.gg_bits.specs.Shape.{Shape, Fits}
 use Rattle.gg_flat.specs.declared.piece.Signal.{Signal}
-use Rattle.gg_flat.specs.WellFormed.{IsWellFormed, MayDrive}
-use Rattle.gg_order.specs.runs.Room.{HasRoom, line_length}
-use Rattle.gg_flat.specs.declared.line.Node.{Node}
 use Rattle.gg_flat.specs.declared.piece.Driver.{Driver}
 use Rattle.gg_flat.specs.declared.piece.Driver.TheVariants.{Input, Held, MemoryWord, ReadRegister, Computed}
-use Rattle.gg_flat.specs.Line.{shape_at, value_at, shapes_of, op_at, HasShape, HasType, line_shape}
+use Rattle.gg_flat.specs.declared.line.Node.{Node}
+use Rattle.gg_flat.specs.Line.{shape_at, value_at, connected_value}
+use Rattle.gg_flat.specs.Memory.{read_word, bank_at}
 use Rattle.gg_flat.specs.Circuit.{FlatCircuit, signal_shapes, driver_at}
-use Rattle.gg_tape.specs.declared.small.Small.{Small}
-use Rattle.gg_tape.specs.declared.instruction.Instruction.{Instruction}
-use Rattle.gg_tape.specs.declared.tape.Stretch.{Stretch}
+use Rattle.gg_flat.specs.State.{State}
+use Rattle.gg_flat.specs.Settled.{driver_value}
+use Rattle.gg_flat.specs.inside.Settled.{HasSource}
+use Rattle.gg_flat.proofs.TypedLemmas.{driver_value-fits}
+use Rattle.gg_order.specs.runs.Room.{HasRoom, line_length}
+use Rattle.gg_tape.specs.declared.code.Stretch.{Stretch}
+use Rattle.gg_tape.specs.declared.code.Code.{Code}
+use Rattle.gg_tape.specs.declared.taped.Origin.{Origin}
+use Rattle.gg_tape.specs.declared.taped.Origin.TheVariants.{FromInput, FromRegister, FromMemory, FromReader, FromLine}
+use Rattle.gg_tape.specs.declared.taped.TapedSignal.{TapedSignal}
 use Rattle.gg_tape.specs.declared.tape.Tape.{Tape}
 use Rattle.gg_tape.specs.inside.Instruction.{small}
 use Rattle.gg_tape.specs.inside.Cells.{Celled}
-use Rattle.gg_tape.specs.inside.Told.{NamesBefore, Told, IsAdded, IsTold}
-use Rattle.gg_tape.specs.inside.Tape.{stretch_of, TellsLine, TellsDriver, signals_of, AreNumbers, IsStretch, IsTape, IsLineIn, TellsMore, CanTell}
-use Rattle.gg_tape.proofs.TellLemmas.{Told-more}
+use Rattle.gg_tape.specs.inside.Tape.{signals_of, Grows, IsOrigin, IsTapedSignal, TellsFor, AreNumbers, CanConnect}
+use Rattle.gg_tape.proofs.CodeLemmas.{for-more, for-can}
 
--- a stretch has the same instructions if more stand behind it
-stretch-more : (instructions more : List Instruction) (stretch : Stretch) → stretch.to ≤ length instructions → stretch_of (instructions ++ more) stretch ≡ stretch_of instructions stretch
-stretch-more instructions more stretch within =
-    elim (leb_tells stretch.from stretch.to) [
-      | inl in-order ↦
-          let from : stretch.from ≤ length instructions = omega (arith, in-order.1, within) in
-          let count : length (drop stretch.from instructions) ≡ length instructions - stretch.from = length-drop stretch.from instructions in
-          ap (take (stretch.to - stretch.from)) (drop-append-le stretch.from instructions more from)
-          ∙ take-append-le (stretch.to - stretch.from) (drop stretch.from instructions) more (omega (arith, count, within))
-      | inr none ↦
-          let zero : stretch.to - stretch.from ≡ 0 = omega (arith, none.1) in
-          ap (λ n. take n (drop stretch.from (instructions ++ more))) zero ∙ sym (ap (λ n. take n (drop stretch.from instructions)) zero)
-    ]
+-- ---- more code
 
-line-more : (n : ℕ) (instructions more : List Instruction) (literals further : List ℕ) (stretch : Stretch) (line : List Node) → TellsLine n instructions literals stretch line → TellsLine n (instructions ++ more) (literals ++ further) stretch line
-line-more n instructions more literals further stretch line tells =
+origin-more : (n : ℕ) (old new : Code) (sink : Shape) (origin : Origin) (driver : Driver) → Grows old new → IsOrigin n old sink origin driver → IsOrigin n new sink origin driver
+origin-more n old new sink (FromInput place) driver grows is = is
+origin-more n old new sink (FromRegister register) driver grows is = is
+origin-more n old new sink (FromMemory memory addr en) driver grows is = is
+origin-more n old new sink (FromReader memory reader) driver grows is = is
+origin-more n old new sink (FromLine stretch) driver grows is = (is.0, is.1, for-more n old new sink stretch is.0 grows is.2)
+
+pub signals-more : (circuit : FlatCircuit) (old new : Code) (signals : List TapedSignal) → Grows old new → All (IsTapedSignal circuit old) signals → All (IsTapedSignal circuit new) signals
+signals-more circuit old new signals grows are = λ k d lt.
+    let taped = get_or signals k d in
+    let is : IsTapedSignal circuit old taped = are k d lt in
+    record { known = is.known; origin = origin-more (length circuit.signals) old new (shape_at (signal_shapes circuit) taped.signal) taped.origin (driver_at circuit taped.signal) grows is.origin }
+
+-- ---- what an origin gives
+
+-- A value is the driver's.
+pub record IsValue (state : State) (inputs signals : List ℕ) (sink : Shape) (driver : Driver) (value : ℕ) : Type 0 where
+  pub value_is : value ≡ driver_value state inputs signals sink driver
+  pub fits : Fits sink value
+
+value-as : (state : State) (inputs signals : List ℕ) (sink : Shape) (driver other : Driver) (value : ℕ) → driver ≡ other → value ≡ driver_value state inputs signals sink other → HasSource state inputs signals sink driver → IsValue state inputs signals sink driver value
+value-as state inputs signals sink driver other value is gives has =
+    let right : value ≡ driver_value state inputs signals sink driver = gives ∙ sym (ap (driver_value state inputs signals sink) is) in
+    record { value_is = right; fits = subst (Fits sink) (sym right) (driver_value-fits state inputs signals sink driver has) }
+
+-- an origin of this kind is of a driver of that kind
+as-origin : (n : ℕ) (code : Code) (sink : Shape) (driver : Driver) (origin other : Origin) → origin ≡ other → IsOrigin n code sink origin driver → IsOrigin n code sink other driver
+as-origin n code sink driver origin other at is = subst (λ (o : Origin). IsOrigin n code sink o driver) at is
+
+pub input-gives : (state : State) (inputs signals : List ℕ) (n : ℕ) (code : Code) (sink : Shape) (driver : Driver) (origin : Origin) (place : ℕ) → IsOrigin n code sink origin driver → HasSource state inputs signals sink driver → origin ≡ FromInput place → (place < length inputs) × IsValue state inputs signals sink driver (value_at inputs place)
+input-gives state inputs signals n code sink driver origin place from has at =
+    let is = as-origin n code sink driver origin (FromInput place) at from in
+    let known : HasSource state inputs signals sink (Input place) = subst (HasSource state inputs signals sink) is has in
+    (known.0, value-as state inputs signals sink driver (Input place) (value_at inputs place) is refl has)
+
+pub register-gives : (state : State) (inputs signals : List ℕ) (n : ℕ) (code : Code) (sink : Shape) (driver : Driver) (origin : Origin) (register : ℕ) → IsOrigin n code sink origin driver → HasSource state inputs signals sink driver → origin ≡ FromRegister register → (register < length state.registers) × IsValue state inputs signals sink driver (value_at state.registers register)
+register-gives state inputs signals n code sink driver origin register from has at =
+    let is = as-origin n code sink driver origin (FromRegister register) at from in
+    let known : HasSource state inputs signals sink (Held register) = subst (HasSource state inputs signals sink) is has in
+    (known.0, value-as state inputs signals sink driver (Held register) (value_at state.registers register) is refl has)
+
+-- What the word of a memory requires, and that it is the driver's value.
+pub record GivesWord (state : State) (inputs signals : List ℕ) (sink : Shape) (driver : Driver) (memory addr en : ℕ) : Type 0 where
+  pub memory_known : memory < length state.banks
+  pub addr_known : addr < length signals
+  pub en_known : en < length signals
+  pub gives : IsValue state inputs signals sink driver (read_word (bank_at state.banks memory).words (value_at signals addr) (value_at signals en))
+
+pub memory-gives : (state : State) (inputs signals : List ℕ) (n : ℕ) (code : Code) (sink : Shape) (driver : Driver) (origin : Origin) (memory addr en : ℕ) → IsOrigin n code sink origin driver → HasSource state inputs signals sink driver → origin ≡ FromMemory memory addr en → GivesWord state inputs signals sink driver memory addr en
+memory-gives state inputs signals n code sink driver origin memory addr en from has at =
+    let is = as-origin n code sink driver origin (FromMemory memory addr en) at from in
+    let known : HasSource state inputs signals sink (MemoryWord memory is.0 addr en) = subst (HasSource state inputs signals sink) is.1 has in
     record {
-      some = tells.some;
-      within = omega (arith, tells.within, length-append instructions more);
-      own = tells.own;
-      told = subst (λ (xs : List Instruction). Told line n (literals ++ further) 0 xs) (sym (stretch-more instructions more stretch tells.within)) (Told-more line n literals further 0 (stretch_of instructions stretch) tells.told);
+      memory_known = known.0;
+      addr_known = known.1;
+      en_known = known.2;
+      gives = value-as state inputs signals sink driver (MemoryWord memory is.0 addr en) (read_word (bank_at state.banks memory).words (value_at signals addr) (value_at signals en)) is.1 refl has;
     }
 
-driver-more : (n : ℕ) (instructions more : List Instruction) (literals further : List ℕ) (stretch : Stretch) (driver : Driver) → TellsDriver n instructions literals stretch driver → TellsDriver n (instructions ++ more) (literals ++ further) stretch driver
-driver-more n instructions more literals further stretch (Input place) tells = tells
-driver-more n instructions more literals further stretch (Held register) tells = tells
-driver-more n instructions more literals further stretch (MemoryWord memory reader addr en) tells = tells
-driver-more n instructions more literals further stretch (ReadRegister memory reader) tells = tells
-driver-more n instructions more literals further stretch (Computed line) tells = line-more n instructions more literals further stretch line tells
+-- The same of a read register.
+pub record GivesRead (state : State) (inputs signals : List ℕ) (sink : Shape) (driver : Driver) (memory reader : ℕ) : Type 0 where
+  pub memory_known : memory < length state.banks
+  pub reader_known : reader < length (bank_at state.banks memory).reads
+  pub gives : IsValue state inputs signals sink driver (value_at (bank_at state.banks memory).reads reader)
 
-stretch-still : (circuit : FlatCircuit) (instructions more : List Instruction) (literals further : List ℕ) (stretch : Stretch) → IsStretch circuit instructions literals stretch → IsStretch circuit (instructions ++ more) (literals ++ further) stretch
-stretch-still circuit instructions more literals further stretch is =
-    record { known = is.known; sink = is.sink; tells = driver-more (length circuit.signals) instructions more literals further stretch (driver_at circuit stretch.signal) is.tells }
-
--- What was added to a tape: instructions and literals.
-record HasMore (old new : Tape) : Type 0 where
-  more : List Instruction
-  further : List ℕ
-  instructions_are : new.instructions.items ≡ old.instructions.items ++ more
-  literals_are : new.literals.items ≡ old.literals.items ++ further
-
-nothing : (old new : Tape) → new ≡ old → HasMore old new
-nothing old new is =
+pub reader-gives : (state : State) (inputs signals : List ℕ) (n : ℕ) (code : Code) (sink : Shape) (driver : Driver) (origin : Origin) (memory reader : ℕ) → IsOrigin n code sink origin driver → HasSource state inputs signals sink driver → origin ≡ FromReader memory reader → GivesRead state inputs signals sink driver memory reader
+reader-gives state inputs signals n code sink driver origin memory reader from has at =
+    let is = as-origin n code sink driver origin (FromReader memory reader) at from in
+    let known : HasSource state inputs signals sink (ReadRegister memory reader) = subst (HasSource state inputs signals sink) is has in
     record {
-      more = [];
-      further = [];
-      instructions_are = ap (λ (t : Tape). t.instructions.items) is ∙ sym (append-nil old.instructions.items);
-      literals_are = ap (λ (t : Tape). t.literals.items) is ∙ sym (append-nil old.literals.items);
+      memory_known = known.0;
+      reader_known = known.1;
+      gives = value-as state inputs signals sink driver (ReadRegister memory reader) (value_at (bank_at state.banks memory).reads reader) is refl has;
     }
 
-has-more : (n : ℕ) (old new : Tape) (own : Small) (driver : Driver) → TellsMore n old new own driver → HasMore old new
-has-more n old new own (Input place) is = nothing old new is
-has-more n old new own (Held register) is = nothing old new is
-has-more n old new own (MemoryWord memory reader addr en) is = nothing old new is
-has-more n old new own (ReadRegister memory reader) is = nothing old new is
-has-more n old new own (Computed line) is = record { more = is.0.made; further = is.0.more; instructions_are = is.0.are; literals_are = is.0.literals_are }
+-- What the instructions of a line require, and that its value is the driver's.
+pub record GivesLine (state : State) (inputs : List ℕ) (cells : Celled) (code : Code) (sink : Shape) (driver : Driver) (stretch : Stretch) : Type 0 where
+  pub line : List Node
+  pub can : CanConnect code stretch cells line
+  pub gives : (value : ℕ) → value ≡ connected_value cells.values (small stretch.sink) line → IsValue state inputs cells.values sink driver value
 
--- ---- one stretch more
-
--- the new instructions are those behind the old ones
-stretch-made : (old made : List Instruction) (stretch : Stretch) → stretch.from ≡ length old → stretch.to ≡ length (old ++ made) → stretch_of (old ++ made) stretch ≡ made
-stretch-made old made stretch from to =
-    let count : length (old ++ made) ≡ length old + length made = length-append old made in
-    let few : stretch.to - stretch.from ≡ length made = omega (arith, from, to, count) in
-    let behind : drop stretch.from (old ++ made) ≡ made = ap (λ k. drop k (old ++ made)) from ∙ drop-append-le (length old) old made (omega arith) ∙ ap (λ xs. xs ++ made) (drop_all (length old) old (omega arith)) in
-    ap₂ take few behind ∙ take_all (length made) made (omega arith)
-
--- a line that has a node has an instruction
-made-some : (line : List Node) (n : ℕ) (literals : List ℕ) (made : List Instruction) → 0 < length line → Told line n literals 0 made → 0 < length made
-made-some line n literals [] some told = absurd (omega (arith, told, some))
-made-some line n literals (instruction ∷ rest) some told = omega arith
-
-line-made : (n : ℕ) (old new : List Instruction) (old_literals literals : List ℕ) (stretch : Stretch) (line : List Node) → 0 < length line → (added : IsAdded line n old old_literals new literals) → small stretch.own ≡ line_shape line → stretch.from ≡ length old → stretch.to ≡ length new → TellsLine n new literals stretch line
-line-made n old new old_literals literals stretch line some added own from to =
-    let count : length new ≡ length old + length added.made = ap length added.are ∙ length-append old added.made in
-    let more = made-some line n literals added.made some added.told in
-    let is : stretch_of new stretch ≡ added.made = ap (λ xs. stretch_of xs stretch) added.are ∙ stretch-made old added.made stretch from (to ∙ ap length added.are) in
+pub line-gives : (state : State) (inputs : List ℕ) (cells : Celled) (n : ℕ) (code : Code) (sink : Shape) (driver : Driver) (origin : Origin) (stretch : Stretch) → IsOrigin n code sink origin driver → HasSource state inputs cells.values sink driver → origin ≡ FromLine stretch → length cells.values ≡ n → line_length driver ≤ cells.room → GivesLine state inputs cells code sink driver stretch
+line-gives state inputs cells n code sink driver origin stretch from has at count room =
+    let is = as-origin n code sink driver origin (FromLine stretch) at from in
+    let line = is.0 in
+    let tells : TellsFor (length cells.values) code sink stretch line = subst (λ (k : ℕ). TellsFor k code sink stretch line) (sym count) is.2 in
+    let known : HasSource state inputs cells.values sink (Computed line) = subst (HasSource state inputs cells.values sink) is.1 has in
+    let can = for-can code sink stretch cells line tells known (subst (λ (d : Driver). line_length d ≤ cells.room) is.1 room) in
     record {
-      some = omega (arith, from, to, count, more);
-      within = omega (arith, to);
-      own = own;
-      told = subst (λ (xs : List Instruction). Told line n literals 0 xs) (sym is) added.told;
+      line = line;
+      can = can;
+      gives = λ value gives. value-as state inputs cells.values sink driver (Computed line) value is.1 (gives ∙ ap (λ s. connected_value cells.values s line) tells.sink_is) has;
     }
 
-driver-made : (n : ℕ) (old new : Tape) (stretch : Stretch) (driver : Driver) → IsLineIn driver → TellsMore n old new stretch.own driver → stretch.from ≡ length old.instructions.items → stretch.to ≡ length new.instructions.items → TellsDriver n new.instructions.items new.literals.items stretch driver
-driver-made n old new stretch (Input place) line is from to = from ∙ sym (ap (λ (t : Tape). length t.instructions.items) is) ∙ sym to
-driver-made n old new stretch (Held register) line is from to = from ∙ sym (ap (λ (t : Tape). length t.instructions.items) is) ∙ sym to
-driver-made n old new stretch (MemoryWord memory reader addr en) line is from to = from ∙ sym (ap (λ (t : Tape). length t.instructions.items) is) ∙ sym to
-driver-made n old new stretch (ReadRegister memory reader) line is from to = from ∙ sym (ap (λ (t : Tape). length t.instructions.items) is) ∙ sym to
-driver-made n old new stretch (Computed line) some is from to =
-    line-made n old.instructions.items new.instructions.items old.literals.items new.literals.items stretch line some.0 is.0 is.1 from to
-
--- The signal of a stretch is told behind an old tape.
-pub record IsMore (circuit : FlatCircuit) (old told : Tape) (stretch : Stretch) : Type 0 where
-  pub known : stretch.signal < length circuit.signals
-  pub sink : small stretch.sink ≡ shape_at (signal_shapes circuit) stretch.signal
-  pub line : IsLineIn (driver_at circuit stretch.signal)
-  pub tells : TellsMore (length circuit.signals) old told stretch.own (driver_at circuit stretch.signal)
-  pub from : stretch.from ≡ length old.instructions.items
-  pub to : stretch.to ≡ length told.instructions.items
-
-pub stretches-more : (circuit : FlatCircuit) (old told : Tape) (stretch : Stretch) → IsTape circuit old → IsMore circuit old told stretch → All (IsStretch circuit told.instructions.items told.literals.items) (old.stretches.items ++ stretch ∷ [])
-stretches-more circuit old told stretch tape is =
-    let more = has-more (length circuit.signals) old told stretch.own (driver_at circuit stretch.signal) is.tells in
-    let still : All (IsStretch circuit told.instructions.items told.literals.items) old.stretches.items = λ k d lt.
-    subst (λ (xs : List Instruction). IsStretch circuit xs told.literals.items (get_or old.stretches.items k d)) (sym more.instructions_are)
-    (subst (λ (xs : List ℕ). IsStretch circuit (old.instructions.items ++ more.more) xs (get_or old.stretches.items k d)) (sym more.literals_are)
-    (stretch-still circuit old.instructions.items more.more old.literals.items more.further (get_or old.stretches.items k d) (tape k d lt))) in
-    All-push (IsStretch circuit told.instructions.items told.literals.items) old.stretches.items stretch still
-    (record { known = is.known; sink = is.sink; tells = driver-made (length circuit.signals) old told stretch (driver_at circuit stretch.signal) is.line is.tells is.from is.to })
-
--- ---- what a stretch gives
-
--- its instructions tell the line, from the cells' values on
-pub told-by : (tape : Tape) (stretch : Stretch) (cells : Celled) (line : List Node) → CanTell tape stretch cells line → IsTold line tape.literals.items (stretch_of tape.instructions.items stretch) cells.values cells.room
-told-by tape stretch cells line can = record { told = can.tells.told; line = can.source.line; enough = can.room }
-
--- ---- what a well-formed circuit's lines are
-
-names-before : (signals : List Shape) (shapes : List Shape) (k : ℕ) (to : Shape) (op : Op) → HasShape (HasType signals) shapes k to op → NamesBefore k op
-names-before signals shapes k to (Ref s) has = tt
-names-before signals shapes k to (Literal value) has = tt
-names-before signals shapes k to (One op i) has = has.0
-names-before signals shapes k to (Two op i j) has = (has.0, has.1)
-names-before signals shapes k to (Fix op i n m) has = has.0
-names-before signals shapes k to (Mux c i j) has = (has.0, has.1, has.2)
-
-pub line-in : (circuit : FlatCircuit) (s : ℕ) (driver : Driver) → MayDrive circuit s driver → IsLineIn driver
-line-in circuit s (Input place) may = tt
-line-in circuit s (Held register) may = tt
-line-in circuit s (MemoryWord memory reader addr en) may = tt
-line-in circuit s (ReadRegister memory reader) may = tt
-line-in circuit s (Computed line) may =
-    (may.line.some, λ k lt. names-before (signal_shapes circuit) (shapes_of line) k (shape_at (shapes_of line) k) (op_at line k) (may.line.typed k lt))
+-- ---- signals
 
 -- there is room for each driver
 some-signal : (signals : List Signal) (s : ℕ) → s < length signals → Signal
@@ -170,9 +135,8 @@ room-at circuit places s room lt =
     let signal = some-signal circuit.signals s lt in
     subst (λ (d : Driver). line_length d ≤ places) (sym (get_or-map (λ (x : Signal). x.driver) circuit.signals s signal _ lt)) (room.drivers s signal lt)
 
--- a tape tells a signal with each stretch
-pub signals-count : (tape : Tape) → length (signals_of tape) ≡ length tape.stretches.items
-signals-count tape = length-map tape.stretches.items (λ (stretch : Stretch). stretch.signal)
+pub signals-count : (tape : Tape) → length (signals_of tape) ≡ length tape.signals.items
+signals-count tape = length-map tape.signals.items (λ (taped : TapedSignal). taped.signal)
 
 -- the cells with another value of a signal
 abbrev pub with-value : Celled → ℕ → ℕ → Celled

@@ -5,7 +5,7 @@ use Rattle.std.proofs.lemmas.List.{get_or_append_left, append-nil, append_assoc,
 use Rattle.gg_flat.specs.declared.line.Node.{Node}
 use Rattle.gg_flat.specs.declared.line.Op.{Op}
 use Rattle.gg_flat.specs.declared.line.Op.TheVariants.{Ref, Literal, One, Two, Fix, Mux}
-use Rattle.gg_flat.specs.Line.{value_at, op_at}
+use Rattle.gg_flat.specs.Line.{op_at}
 use Rattle.gg_tape.specs.declared.instruction.Instruction.{Instruction}
 use Rattle.gg_tape.specs.inside.Told.{IsRef, DoesOp, Does, IsNext, Told, TellsTo, IsAdded}
 

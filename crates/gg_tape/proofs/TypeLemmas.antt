@@ -1,5 +1,5 @@
 -- What the type of a multiplexer says.
-use Rattle.std.proofs.Common.{◌≡◌, ℕ, refl, ap, subst, arith}
+use Rattle.std.proofs.Common.{◌≡◌, ℕ, refl, arith}
 use Rattle.std.specs.Prelude.{Bool, true, false, Ok, ◌==◌, ◌&&◌}
 use Rattle.std.proofs.lemmas.Bool.Decides.{nat_tests}
 use Rattle.gg_bits.specs.Shape.{Shape}

@@ -2,12 +2,15 @@
 ghost use Rattle.std.specs.Prelude.{◌≡◌, ◌<◌, List, length, replicate, slice_set, IfOk};
 ghost use Rattle.gg_bits.specs.Shape.{Fits};
 ghost use Rattle.gg_flat.specs.declared.line.Node.{Node};
-ghost use Rattle.gg_flat.specs.Line.{line_shape, line_value, value_at};
+ghost use Rattle.gg_flat.specs.Circuit.{signal_shapes};
+ghost use Rattle.gg_flat.specs.Line.{AreTyped, line_shape, line_value, value_at};
+ghost use Rattle.gg_order.specs.runs.Room.{HasRoom};
 ghost use Rattle.gg_tape.specs.inside.Told.{IsTold};
 
 use crate::instruction::Instruction;
 use crate::run::run;
-use gg_order::zeros;
+use gg_flat::Piece;
+use gg_order::{room_of, zeros};
 use std::alloc::{AllocError, Global};
 use std::marker::Model;
 
@@ -50,6 +53,19 @@ impl Cells {
         };
         let all = zeros(alloc, count)?;
         Ok(Cells { all, signals })
+    }
+
+    /// Zeros for the signals of a piece, with room for each of its lines.
+    ///
+    /// # Errors
+    ///
+    /// Returns `AllocError` if an allocation fails.
+    pub fn of(alloc: Global, piece: &Piece) -> Result<Cells, AllocError>
+        ensures typed { IfOk result (λ cells. AreTyped (signal_shapes piece.now) cells.values) }
+        ensures room { IfOk result (λ cells. HasRoom piece.now cells.room) }
+    {
+        let cells = Cells::new(alloc, piece.signal_count(), room_of(piece))?;
+        Ok(cells)
     }
 
     /// The values of the signals.

@@ -1,65 +1,47 @@
 //! `Tape`: the lines of a circuit, in an order of its signals.
-ghost use Rattle.std.specs.Prelude.{◌≡◌, ℕ, ◌<◌, ◌≤◌, ◌^◌, List, [], ◌∷◌, ◌++◌, length, IfOk, OnOk};
-ghost use Rattle.gg_bits.specs.Shape.{Fits};
-ghost use Rattle.gg_flat.specs.declared.line.Node.{Node};
-ghost use Rattle.gg_flat.specs.Line.{shape_at, value_at, op_at, AreTyped, connected_value};
-ghost use Rattle.gg_flat.specs.Circuit.{signal_shapes, driver_at};
-ghost use Rattle.gg_flat.specs.WellFormed.{IsWellFormed};
-ghost use Rattle.gg_flat.specs.State.{IsState};
+ghost use Rattle.std.specs.Prelude.{◌≡◌, ℕ, ◌<◌, ◌≤◌, ◌^◌, [], ◌∷◌, ◌++◌, length, IfOk, OnOk};
+ghost use Rattle.gg_bits.specs.Shape.{shape, Fits};
+ghost use Rattle.gg_flat.specs.Line.{shape_at, value_at, AreTyped};
+ghost use Rattle.gg_flat.specs.Circuit.{signal_shapes, register_shapes, driver_at};
+ghost use Rattle.gg_flat.specs.WellFormed.{IsWellFormed, MayDrive};
+ghost use Rattle.gg_flat.specs.State.{IsState, next_state, next_registers};
 ghost use Rattle.gg_flat.specs.Order.{IsOrder};
 ghost use Rattle.gg_flat.specs.inside.Settled.{HasSource};
 ghost use Rattle.gg_flat.specs.Settled.{Settled, IsInputs, driver_value as driver_value_of};
 ghost use Rattle.gg_order.specs.runs.Room.{HasRoom, line_length};
-ghost use Rattle.gg_tape.specs.inside.Instruction.{small};
-ghost use Rattle.gg_tape.specs.inside.Told.{NamesBefore, IsAdded};
-ghost use Rattle.gg_tape.specs.inside.Tape.{signals_of, IsTape, IsWhole, IsLineIn, TellsMore, CanTell};
+ghost use Rattle.gg_tape.specs.inside.Tape.{signals_of, AreTapedSignals, IsOrigin, IsTape, IsWhole, Grows};
 
 use crate::cells::Cells;
-use crate::instruction::Instruction;
-use crate::small::Small;
-use crate::tell::tell;
-use gg_bits::{Ty, Val, extend};
-use gg_flat::{Driver, Line, Piece};
-use gg_order::{State, driver_value};
+use crate::code::Code;
+use crate::taped::{Origin, TapedRegister, TapedSignal};
+use gg_bits::Ty;
+use gg_flat::{Driver, Piece};
+use gg_order::State;
 use std::alloc::{AllocError, Global};
 
-// A signal of a tape: its instructions, and the types of its line and of itself.
-#[derive(Clone, Copy)]
-pub(crate) struct Stretch {
-    // The first instruction.
-    pub(crate) from: u32,
-    // The place after the last instruction. There are none if the driver isn't a line.
-    pub(crate) to: u32,
-    // The signal.
-    pub(crate) signal: u32,
-    // The type of the line's result.
-    pub(crate) own: Small,
-    // The signal's type.
-    pub(crate) sink: Small,
-}
-
-/// The lines of a circuit as one list of instructions, in an order of its signals.
+/// The lines of a circuit as one list of instructions: those of its signals, in an order, and then those of its
+/// registers.
 pub struct Tape {
-    stretches: Vec<Stretch>,
-    instructions: Vec<Instruction>,
-    literals: Vec<u128>,
+    code: Code,
+    signals: Vec<TapedSignal>,
+    registers: Vec<TapedRegister>,
 }
 
 impl Drop for Tape {
     fn drop(self) {
         let Self {
-            stretches,
-            instructions,
-            literals,
+            code,
+            signals,
+            registers,
         } = self;
-        drop(stretches);
-        drop(instructions);
-        drop(literals);
+        drop(code);
+        drop(signals);
+        drop(registers);
     }
 }
 
 impl Tape {
-    /// The tape of these signals of a well-formed circuit.
+    /// The tape of these signals of a well-formed circuit, and of its registers.
     ///
     /// # Errors
     ///
@@ -72,17 +54,18 @@ impl Tape {
         ensures signals { IfOk result (λ tape. signals_of tape ≡ signals.now) }
     {
         let mut tape = Tape {
-            stretches: Vec::new(alloc),
-            instructions: Vec::new(alloc),
-            literals: Vec::new(alloc),
+            code: Code::new(alloc),
+            signals: Vec::new(alloc),
+            registers: Vec::new(alloc),
         };
         for signal in signals {
             tape.add(piece, *signal)?;
         }
+        tape.add_registers(piece)?;
         Ok(tape)
     }
 
-    /// The tape of all signals of a well-formed circuit, by their numbers.
+    /// The tape of all signals of a well-formed circuit, by their numbers, and of its registers.
     ///
     /// # Errors
     ///
@@ -92,13 +75,14 @@ impl Tape {
         ensures whole { IfOk result (λ tape. IsWhole piece.now tape) }
     {
         let mut tape = Tape {
-            stretches: Vec::new(alloc),
-            instructions: Vec::new(alloc),
-            literals: Vec::new(alloc),
+            code: Code::new(alloc),
+            signals: Vec::new(alloc),
+            registers: Vec::new(alloc),
         };
         for signal in 0..piece.signal_count() {
             tape.add(piece, signal as u32)?;
         }
+        tape.add_registers(piece)?;
         Ok(tape)
     }
 
@@ -106,63 +90,30 @@ impl Tape {
     fn add(&mut self, piece: &Piece, signal: u32) -> Result<(), AllocError>
         requires formed { IsWellFormed piece.now }
         requires known { signal < length piece.now.signals }
-        requires tape { IsTape piece.now self.old }
-        ensures tape { OnOk result (IsTape piece.now self.new) }
+        requires signals { AreTapedSignals piece.now self.old }
+        ensures taped { OnOk result (AreTapedSignals piece.now self.new) }
         ensures signals { OnOk result (signals_of self.new ≡ signals_of self.old ++ signal ∷ []) }
+        ensures registers { self.new.registers ≡ self.old.registers }
     {
         let row = &piece.signals()[signal as usize];
-        let from = number_of(self.instructions.len())?;
-        let own = self.tell_driver(piece.signal_count(), &row.driver, row.ty)?;
-        let to = number_of(self.instructions.len())?;
-        self.stretches.push(Stretch {
-            from,
-            to,
-            signal,
-            own,
-            sink: Small::of(row.ty),
-        })?;
+        let origin = origin_of(&mut self.code, piece, signal, &row.driver, row.ty)?;
+        self.signals.push(TapedSignal { signal, origin })?;
         Ok(())
     }
 
-    // Adds the instructions of a driver, if it is a line. Returns the type of its result.
-    fn tell_driver(
-        &mut self,
-        signals: usize,
-        driver: &Driver,
-        sink: Ty,
-    ) -> Result<Small, AllocError>
-        requires few { signals < 2 ^ 32 }
-        requires line { IsLineIn driver.now }
-        ensures told { IfOk result (λ own. TellsMore signals self.old self.new own driver.now) }
-        ensures stretches { self.new.stretches ≡ self.old.stretches }
+    // Adds the lines of all registers. There are none yet.
+    fn add_registers(&mut self, piece: &Piece) -> Result<(), AllocError>
+        requires formed { IsWellFormed piece.now }
+        requires signals { AreTapedSignals piece.now self.old }
+        requires none { self.old.registers.items ≡ [] }
+        ensures tape { OnOk result (IsTape piece.now self.new) }
+        ensures signals { self.new.signals ≡ self.old.signals }
     {
-        match driver {
-            Driver::Computed(line) => {
-                self.tell_line(signals, line)?;
-                Ok(Small::of(line.ty()))
-            }
-            _ => Ok(Small::of(sink)),
+        for register in piece.registers() {
+            let taped = self.code.tell_register(piece.signal_count(), register)?;
+            self.registers.push(taped)?;
         }
-    }
-
-    // Adds the instructions of a line.
-    fn tell_line(&mut self, signals: usize, line: &Line) -> Result<(), AllocError>
-        requires few { signals < 2 ^ 32 }
-        requires some { 0 < length line.now }
-        requires before { (k : ℕ) → k < length line.now → NamesBefore k (op_at line.now k) }
-        ensures told { OnOk result (IsAdded line.now signals self.old.instructions.items self.old.literals.items self.new.instructions.items self.new.literals.items) }
-        ensures stretches { self.new.stretches ≡ self.old.stretches }
-    {
-        let nodes = line.as_slice();
-        if signals + nodes.len() > u32::MAX as usize {
-            return Err(AllocError);
-        }
-        tell(
-            nodes,
-            signals as u32,
-            &mut self.instructions,
-            &mut self.literals,
-        )
+        Ok(())
     }
 
     /// The value of the signal at this place of the tape's order, in this state and with these inputs.
@@ -171,42 +122,33 @@ impl Tape {
     #[inline(always)]
     pub fn value(
         &self,
-        piece: &Piece,
+        _piece: &Piece,
         place: usize,
         state: &State,
         inputs: &[u128],
         cells: &mut Cells,
     ) -> u128
-        requires tape { IsTape piece.now self.now }
+        requires tape { IsTape _piece.now self.now }
         requires place { place < length (signals_of self.now) }
-        requires count { length cells.old.values ≡ length piece.now.signals }
-        requires source { HasSource state.now inputs.now cells.old.values (shape_at (signal_shapes piece.now) (value_at (signals_of self.now) place)) (driver_at piece.now (value_at (signals_of self.now) place)) }
-        requires room { line_length (driver_at piece.now (value_at (signals_of self.now) place)) ≤ cells.old.room }
-        ensures value { result ≡ driver_value_of state.now inputs.now cells.old.values (shape_at (signal_shapes piece.now) (value_at (signals_of self.now) place)) (driver_at piece.now (value_at (signals_of self.now) place)) }
-        ensures fits { Fits (shape_at (signal_shapes piece.now) (value_at (signals_of self.now) place)) result }
+        requires count { length cells.old.values ≡ length _piece.now.signals }
+        requires source { HasSource state.now inputs.now cells.old.values (shape_at (signal_shapes _piece.now) (value_at (signals_of self.now) place)) (driver_at _piece.now (value_at (signals_of self.now) place)) }
+        requires room { line_length (driver_at _piece.now (value_at (signals_of self.now) place)) ≤ cells.old.room }
+        ensures value { result ≡ driver_value_of state.now inputs.now cells.old.values (shape_at (signal_shapes _piece.now) (value_at (signals_of self.now) place)) (driver_at _piece.now (value_at (signals_of self.now) place)) }
+        ensures fits { Fits (shape_at (signal_shapes _piece.now) (value_at (signals_of self.now) place)) result }
         ensures same { cells.new ≡ cells.old }
     {
-        let stretch = &self.stretches[place];
-        if stretch.from < stretch.to {
-            self.line_value(stretch, cells)
-        } else {
-            let row = &piece.signals()[stretch.signal as usize];
-            driver_value(&row.driver, row.ty, state, inputs, cells.values(), &mut [])
+        match &self.signals[place].origin {
+            Origin::FromLine(stretch) => self.code.connected(stretch, cells),
+            Origin::FromInput(place) => inputs[*place as usize],
+            Origin::FromRegister(register) => state.registers()[*register as usize],
+            Origin::FromMemory(memory, addr, en) => {
+                let (addr, en) = (cells.value(*addr), cells.value(*en));
+                state.banks()[*memory as usize].word(addr, en)
+            }
+            Origin::FromReader(memory, reader) => {
+                state.banks()[*memory as usize].reads()[*reader as usize]
+            }
         }
-    }
-
-    // The value of the line that a stretch computes, as its signal gets it.
-    #[inline(always)]
-    fn line_value(&self, stretch: &Stretch, cells: &mut Cells) -> u128
-        requires { (line : List Node) × CanTell self.now stretch.now cells.old line }
-        ensures value { (line : List Node) → CanTell self.now stretch.now cells.old line
-            → result ≡ connected_value cells.old.values (small stretch.now.sink) line }
-        ensures fits { Fits (small stretch.now.sink) result }
-        ensures same { cells.new ≡ cells.old }
-    {
-        let instructions = &self.instructions[stretch.from as usize..stretch.to as usize];
-        let value = cells.run(instructions, self.literals.as_slice());
-        extend(Val(value), stretch.own.ty(), u32::from(stretch.sink.width)).0
     }
 
     /// Settles the values of all signals, in this state and with these inputs: each signal of the tape's order in turn
@@ -225,19 +167,72 @@ impl Tape {
         ensures settled { Settled piece.now state.now inputs.now cells.new.values }
         ensures room { cells.new.room ≡ cells.old.room }
     {
-        for place in 0..self.stretches.len() {
+        for place in 0..self.signals.len() {
             let value = self.value(piece, place, state, inputs, cells);
-            cells.set(self.stretches[place].signal, value);
+            cells.set(self.signals[place].signal, value);
+        }
+    }
+
+    /// Advances to the state after a tick with these edges, if the signals have the values of these cells. Edges are
+    /// given by clock.
+    ///
+    /// The piece is well formed. State and values have its counts and types, and there is room for its lines (gg_order
+    /// `room_of`). Only the words of a memory that its writers name are written.
+    pub fn advance(&self, piece: &Piece, state: &mut State, edges: &[bool], cells: &mut Cells)
+        requires formed { IsWellFormed piece.now }
+        requires tape { IsTape piece.now self.now }
+        requires state { IsState piece.now state.old }
+        requires signals { AreTyped (signal_shapes piece.now) cells.old.values }
+        requires room { HasRoom piece.now cells.old.room }
+        ensures next { state.new ≡ next_state edges.now piece.now state.old cells.old.values }
+        ensures typed { IsState piece.now state.new }
+        ensures same { cells.new ≡ cells.old }
+    {
+        self.advance_registers(piece, state, edges, cells);
+        state.advance_banks(piece, edges, cells.values());
+    }
+
+    // Replaces the value of each register by its value after a tick with these edges.
+    fn advance_registers(&self, piece: &Piece, state: &mut State, edges: &[bool], cells: &mut Cells)
+        requires formed { IsWellFormed piece.now }
+        requires tape { IsTape piece.now self.now }
+        requires state { AreTyped (register_shapes piece.now) state.old.registers }
+        requires signals { AreTyped (signal_shapes piece.now) cells.old.values }
+        requires room { HasRoom piece.now cells.old.room }
+        ensures next { state.new ≡ record state.old { registers = next_registers edges.now cells.old.values piece.now.registers state.old.registers } }
+        ensures typed { AreTyped (register_shapes piece.now) state.new.registers }
+        ensures same { cells.new ≡ cells.old }
+    {
+        for r in 0..self.registers.len() {
+            let (taped, register) = (&self.registers[r], &piece.registers()[r]);
+            let own = state.registers()[r];
+            let next = self.code.next_value(taped, register, own, edges, cells);
+            state.set_register(r, next);
         }
     }
 }
 
-// The number of an instruction, if there are at most 4,294,967,295.
-fn number_of(count: usize) -> Result<u32, AllocError>
-    ensures { IfOk result (λ number. number ≡ count) }
+// Where the value of a signal comes from, by its driver. The instructions of a line are added.
+fn origin_of(
+    code: &mut Code,
+    piece: &Piece,
+    _signal: u32,
+    driver: &Driver,
+    sink: Ty,
+) -> Result<Origin, AllocError>
+    requires driver { MayDrive piece.now _signal driver.now }
+    requires sink { shape_at (signal_shapes piece.now) _signal ≡ shape sink }
+    ensures origin { IfOk result (λ origin. IsOrigin (length piece.now.signals) code.new (shape sink) origin driver.now) }
+    ensures grown { OnOk result (Grows code.old code.new) }
 {
-    if count > u32::MAX as usize {
-        return Err(AllocError);
+    match driver {
+        Driver::Input(place) => Ok(Origin::FromInput(*place)),
+        Driver::Held(register) => Ok(Origin::FromRegister(*register)),
+        Driver::MemoryWord(memory, _, addr, en) => Ok(Origin::FromMemory(*memory, *addr, *en)),
+        Driver::ReadRegister(memory, reader) => Ok(Origin::FromReader(*memory, *reader)),
+        Driver::Computed(line) => {
+            let stretch = code.tell(piece.signal_count(), line, sink)?;
+            Ok(Origin::FromLine(stretch))
+        }
     }
-    Ok(count as u32)
 }

@@ -1,7 +1,5 @@
-//! How much room a piece needs for its signals' values and for its lines.
-ghost use Rattle.std.specs.Prelude.{◌≡◌, ℕ, ◌≤◌, length, replicate, All, IfOk};
-ghost use Rattle.gg_flat.specs.Line.{AreTyped};
-ghost use Rattle.gg_flat.specs.Circuit.{signal_shapes};
+//! How much room the lines of a piece need.
+ghost use Rattle.std.specs.Prelude.{◌≡◌, ℕ, ◌≤◌, replicate, All, IfOk};
 ghost use Rattle.gg_order.specs.runs.Room.{line_length, register_length, HasRoom};
 
 use gg_flat::{Driver, Piece, Register, Signal};
@@ -73,29 +71,4 @@ pub fn room_of(piece: &Piece) -> usize
     ensures least { (places : ℕ) → HasRoom piece.now places → result ≤ places }
 {
     longest_driver(piece.signals()).max(longest_register(piece.registers()))
-}
-
-/// Scratch space with room for each of a piece's lines.
-///
-/// # Errors
-///
-/// Returns `AllocError` if an allocation fails.
-pub fn scratch_of(alloc: Global, piece: &Piece) -> Result<Vec<u128>, AllocError>
-    ensures { IfOk result (λ places. HasRoom piece.now (length places.items)) }
-{
-    let places = zeros(alloc, room_of(piece))?;
-    Ok(places)
-}
-
-/// A zero for each signal of a piece.
-///
-/// # Errors
-///
-/// Returns `AllocError` if an allocation fails.
-pub fn signal_zeros(alloc: Global, piece: &Piece) -> Result<Vec<u128>, AllocError>
-    ensures zeros { IfOk result (λ values. values.items ≡ replicate (length piece.now.signals) 0) }
-    ensures typed { IfOk result (λ values. AreTyped (signal_shapes piece.now) values.items) }
-{
-    let values = zeros(alloc, piece.signals().len())?;
-    Ok(values)
 }

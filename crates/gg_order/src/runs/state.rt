@@ -1,20 +1,17 @@
 //! `State`: the state of a flat circuit between two cycles.
-ghost use Rattle.std.specs.Prelude.{◌≡◌, ◌<◌, ◌≤◌, length, map, All, IfOk};
-ghost use Rattle.gg_flat.specs.State.{opening, next_state, next_registers, IsState};
+ghost use Rattle.std.specs.Prelude.{◌≡◌, ◌<◌, length, map, slice_set, All, IfOk};
+ghost use Rattle.gg_flat.specs.State.{opening, IsState};
 ghost use Rattle.std.specs.Borrow.{sem};
 ghost use Rattle.gg_order.specs.inside.Lent.{LendsBank};
 ghost use Rattle.gg_flat.specs.Memory.{bank_at, opening_bank, next_banks, AreBanks};
-ghost use Rattle.gg_flat.specs.WellFormed.{IsWellFormed, IsRegister, IsMemory};
-ghost use Rattle.gg_order.specs.runs.Room.{HasRoom, register_length};
+ghost use Rattle.gg_flat.specs.WellFormed.{IsWellFormed, IsMemory};
 ghost use Rattle.gg_flat.specs.Circuit.{signal_shapes};
 ghost use Rattle.gg_flat.specs.Line.{AreTyped};
 ghost use Rattle.gg_flat.specs.inside.Line.{HasValue};
-ghost use Rattle.gg_bits.specs.Shape.{shape};
 
 use crate::runs::bank::Bank;
 use crate::runs::room::zeros;
-use crate::runs::values::next_value;
-use gg_flat::{Memory, Piece, Register};
+use gg_flat::{Memory, Piece};
 use std::alloc::{AllocError, Global};
 use std::marker::Model;
 
@@ -85,27 +82,28 @@ impl State {
         &mut self.banks[place]
     }
 
-    /// Advances to the state after a tick with these edges, if the signals have these values. Edges are given by clock,
-    /// values by signal.
-    ///
-    /// The piece is well formed. State and values have its counts and types. The scratch space has room for its lines
-    /// (`scratch_of`). Only the words of a memory that its writers name are written.
-    pub fn advance(&mut self, piece: &Piece, edges: &[bool], signals: &[u128], scratch: &mut [u128])
-        requires formed { IsWellFormed piece.now }
-        requires state { IsState piece.now self.old }
-        requires signals { AreTyped (signal_shapes piece.now) signals.now }
-        requires room { HasRoom piece.now (length scratch.old) }
-        ensures next { self.new ≡ next_state edges.now piece.now self.old signals.now }
-        ensures typed { IsState piece.now self.new }
+    /// Sets the value of a register, given by its number.
+    #[inline(always)]
+    pub fn set_register(&mut self, register: usize, value: u128)
+        requires { register < length self.old.registers }
+        ensures { self.new ≡ record self.old { registers = slice_set self.old.registers register value } }
     {
-        advance_registers(
-            piece.registers(),
-            &mut self.registers,
-            edges,
-            signals,
-            scratch,
-        );
-        advance_banks(piece.memories(), &mut self.banks, edges, signals);
+        self.registers[register] = value;
+    }
+
+    /// Replaces the contents of each memory by its contents after a tick with these edges, if the signals have these
+    /// values. Edges are given by clock, values by signal.
+    ///
+    /// The piece is well formed. State and values have its counts and types. Only the words of a memory that its writers
+    /// name are written.
+    pub fn advance_banks(&mut self, piece: &Piece, edges: &[bool], signals: &[u128])
+        requires formed { IsWellFormed piece.now }
+        requires banks { AreBanks piece.now.memories self.old.banks }
+        requires signals { AreTyped (signal_shapes piece.now) signals.now }
+        ensures next { self.new ≡ record self.old { banks = next_banks edges.now signals.now piece.now.memories self.old.banks } }
+        ensures typed { AreBanks piece.now.memories self.new.banks }
+    {
+        next_contents(piece.memories(), &mut self.banks, edges, signals);
     }
 }
 
@@ -121,7 +119,7 @@ fn opening_banks(alloc: Global, memories: &[Memory]) -> Result<Vec<Bank>, AllocE
 }
 
 // Replaces the contents of each memory by its contents after the tick.
-fn advance_banks(memories: &[Memory], banks: &mut [Bank], edges: &[bool], signals: &[u128])
+fn next_contents(memories: &[Memory], banks: &mut [Bank], edges: &[bool], signals: &[u128])
     requires memories { All (IsMemory (HasValue signals.now)) memories.now }
     requires banks { AreBanks memories.now banks.old }
     ensures next { banks.new ≡ next_banks edges.now signals.now memories.now banks.old }
@@ -129,26 +127,5 @@ fn advance_banks(memories: &[Memory], banks: &mut [Bank], edges: &[bool], signal
 {
     for m in 0..memories.len() {
         banks[m].advance(&memories[m], edges, signals);
-    }
-}
-
-// Replaces the value of each register by its value after the tick.
-fn advance_registers(
-    registers: &[Register],
-    own: &mut [u128],
-    edges: &[bool],
-    signals: &[u128],
-    scratch: &mut [u128],
-)
-    requires lines { All (IsRegister (HasValue signals.now)) registers.now }
-    requires typed { AreTyped (map (λ register. shape register.ty) registers.now) own.old }
-    requires room { All (λ register. register_length register ≤ length scratch.old) registers.now }
-    ensures next { own.new ≡ next_registers edges.now signals.now registers.now own.old }
-    ensures typed { AreTyped (map (λ register. shape register.ty) registers.now) own.new }
-{
-    for r in 0..registers.len() {
-        let register = &registers[r];
-        let next = next_value(register, own[r], edges, signals, scratch);
-        own[r] = next;
     }
 }

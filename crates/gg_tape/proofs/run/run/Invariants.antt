@@ -1,6 +1,3 @@
-use Rattle.std.proofs.Common.{List, length, take, drop}
-use Rattle.gg_flat.specs.declared.line.Node.{Node}
-use Rattle.gg_tape.specs.inside.Told.{CanRun}
 use Rattle.gg_tape.proofs.RunLemmas.{IsRunning}
 use Rattle.gg_tape.proofs.run.run.Given as goal
 

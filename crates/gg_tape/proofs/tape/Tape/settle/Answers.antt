@@ -7,7 +7,7 @@ use Rattle.gg_flat.proofs.TypedLemmas.{HasSource-from}
 use Rattle.gg_order.specs.runs.Room.{HasRoom}
 use Rattle.gg_order.proofs.RunsLemmas.SettleLemmas.{Partly, Partly-more, Settled-from_Partly}
 use Rattle.gg_flat.specs.declared.piece.Signal.{Signal}
-use Rattle.gg_tape.specs.declared.tape.Stretch.{Stretch}
+use Rattle.gg_tape.specs.declared.taped.TapedSignal.{TapedSignal}
 use Rattle.gg_tape.specs.inside.Cells.{Celled}
 use Rattle.gg_tape.specs.inside.Tape.{signals_of}
 use Rattle.gg_tape.proofs.TapeLemmas.{room-at, signals-count, with-value}
@@ -43,12 +43,12 @@ loop-place-preserved c =
     let cells = c.loop-place.cells in
     let v = c.value-value.result in
     let signal = c.index.result.now.signal in
-    let stretches = c.args.self.now.stretches.items in
-    let many : place < length stretches = omega (arith, c.loop-place-test.true, c.len-place-end.ensures) in
+    let all = c.args.self.now.signals.items in
+    let many : place < length all = omega (arith, c.loop-place-test.true, c.len-place-end.ensures) in
     let lt : place < length order = omega (arith, many, signals-count c.args.self.now) in
     let after : c.set.new.self ≡ with-value cells signal v = c.set.ensures ∙ ap (λ (x : Celled). with-value x signal v) c.value-value.ensures.same in
     let named : signal ≡ value_at order place =
-    ap (λ (x : Stretch). x.signal) c.index.ensures ∙ sym (get_or-map (λ (x : Stretch). x.signal) stretches place c.index.result.now 0 many) in
+    ap (λ (x : TapedSignal). x.signal) c.index.ensures ∙ sym (get_or-map (λ (x : TapedSignal). x.signal) all place c.index.result.now 0 many) in
     let values_are : c.set.new.self.values ≡ set cells.values (value_at order place) v = ap (λ (x : Celled). x.values) after ∙ ap (λ s. set cells.values s v) named in
     let more = Partly-more circuit c.args.state.now c.args.inputs.now order place cells.values v c.requires.order lt c.loop-place.invariant.0 c.value-value.ensures.value c.value-value.ensures.fits in (
       subst (λ (xs : List ℕ). Partly circuit c.args.state.now c.args.inputs.now order (place + 1) xs) (sym values_are) more,

@@ -1,5 +1,0 @@
-use Rattle.gg_order.proofs.RunsLemmas.LateLemmas.{BanksSoFar}
-use Rattle.gg_order.proofs.runs.state.advance_banks.Given as goal
-
-abbrev pub invariant-loop-m : goal.invariant-loop-m
-invariant-loop-m l = BanksSoFar l.edges l.signals l.memories l.initial.banks l.m l.banks
