@@ -19,9 +19,10 @@ use Rattle.gg_cut_reference.specs.Links.{taken_as}
 use Rattle.gg_cut_reference.proofs.NothingLemmas.{plan-plain, plan-taken-same}
 use Rattle.gg_rows.specs.Printed.{plan_stops}
 use Rattle.gg_io.specs.Ends.{Loads}
-use Rattle.gg_io.specs.Order.{IsOnly, IsWritten}
-use Rattle.gg_io.proofs.EndsLemmas.{Failed, Stopped, Wanted, WhyEnds, Wrote, ends-why}
-use Rattle.gg_io.proofs.OrderLemmas.{told-bytes, why-stops}
+use Rattle.gg_io.specs.Order.{IsJudgement, IsOnly, IsWritten, Order}
+use Rattle.gg_io.specs.Said.{Said}
+use Rattle.gg_io.proofs.EndsLemmas.{Failed, Stopped, Wanted, WhyEnds, Wrote, ends-why, unjudged-0}
+use Rattle.gg_io.proofs.OrderLemmas.{Cut, Judged, Lost, Why, told-bytes, why-stops}
 use Rattle.gg_trace.specs.Last.{halts, row_count}
 use Rattle.gg_trace.specs.Printing.{trace_text}
 use Rattle.gg_trace.specs.Trace.{Columns}
@@ -36,13 +37,18 @@ use Rattle.golden_commands.specs.Run.{IsPlainText, IsTextOf, circuit_file, trace
 use Rattle.golden_commands.specs.RunText.{IsRunBy, IsRunText, columns_of, outputs_of, run_rows}
 use Rattle.golden_commands.proofs.AloneLemmas.{fed-alone, kept-alone, run-alone, shown-alone}
 use Rattle.golden.proofs.CauseLemmas.{ExactOrders, OneMeaning, asks-once}
-use Rattle.golden.proofs.NetworkLemmas.{refused-some}
 use Rattle.golden.proofs.StopLemmas.{ratios-plain, rows-plain}
 use Rattle.golden.proofs.TickLemmas.{AreAlways, always-of, run-without-ratios}
 
 -- bytes hold at most one request
 abbrev pub OneRequest : Type 0
 OneRequest = (bytes : List ℕ) (one other : Request) → IsPartition bytes one → IsPartition bytes other → one ≡ other
+
+-- no file is refused with status 0
+refused-some : {files : List ℕ → Told} {lost cut : List ℕ → Type 0} {order : Order} {said : Said} → Why files lost cut order said → said.status ≡ 0 → ⊥
+refused-some (Lost name is rose) e = let status = ap (λ (said : Said). said.status) is in omega (arith, status, e)
+refused-some (Cut status name rose stops) e = omega (arith, status, e)
+refused-some (Judged status stops) e = unjudged-0 (subst IsJudgement e status)
 
 -- ---- the whole text
 

@@ -7,7 +7,6 @@ pub mod FirstLemmas
 pub mod FrontLemmas
 pub mod KnownLemmas
 pub mod MeantLemmas
-pub mod NetworkLemmas
 pub mod OnlyLemmas
 pub mod PromisedLemmas
 pub mod ResumedLemmas

@@ -14,7 +14,6 @@ use Rattle.gg_io.specs.declared.endings.Ending.TheVariants.{NoMemory, Refused, U
 use Rattle.gg_io.proofs.EndingLemmas.{judged-map}
 use Rattle.gg_words.specs.Meaning.{IsCommand}
 use Rattle.gg_words.specs.declared.command.Cmd.{Cmd}
-use Rattle.gg_words.specs.declared.command.Cmd.TheVariants.{Replay}
 use Rattle.golden_commands.specs.inside.Case.{FedRead, trace_order}
 use Rattle.golden_commands.specs.Case.{IsFed}
 use Rattle.golden_commands.specs.Commands.{Asked, asking}
@@ -200,22 +199,6 @@ untold other = record { wrote = λ e. absurd (other.unwritten e); refused = λ e
 -- a call that wants memory
 pub wants-other : {T : Type 0} {r : Result T Ending} → r ≡ Err NoMemory → IsOther (said_by r).status
 wants-other is = by-ending is other-5
-
--- what the network tells of a command's files
-pub told-by : {known : Known} {files : List ℕ → Told} {out : Puts} {asked : Cmd} {circuit partition trace steps : List ℕ} {capacity : ℕ} {said : Said} → asked ≡ Replay circuit partition trace steps capacity
-    → ToldByNetwork known files out circuit partition trace steps capacity said
-    → (c p t s : List ℕ) (k : ℕ) → asked ≡ Replay c p t s k → ToldByNetwork known files out c p t s k said
-told-by {known = known} {files = files} {out = out} {circuit = circuit} {partition = partition} {trace = trace} {steps = steps} {capacity = capacity} {said = said} is told c p t s k e =
-    let one : circuit ≡ c = cc in
-    let two : partition ≡ p = cc in
-    let three : trace ≡ t = cc in
-    let four : steps ≡ s = cc in
-    let five : capacity ≡ k = cc in
-    subst (λ (k : ℕ). ToldByNetwork known files out c p t s k said) five
-    (subst (λ (s : List ℕ). ToldByNetwork known files out c p t s capacity said) four
-    (subst (λ (t : List ℕ). ToldByNetwork known files out c p t steps capacity said) three
-    (subst (λ (p : List ℕ). ToldByNetwork known files out c p trace steps capacity said) two
-    (subst (λ (c : List ℕ). ToldByNetwork known files out c partition trace steps capacity said) one told))))
 
 -- what a call reported
 pub told-reported : {known : Known} {files : List ℕ → Told} {out err : Puts} {circuit partition trace steps : List ℕ} {capacity status : ℕ} (said : Said) → status ≡ said.status → Reports err said.line

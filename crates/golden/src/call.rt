@@ -1,20 +1,15 @@
 //! The top call.
-ghost use Rattle.std.specs.Prelude.{◌≡◌, ℕ, List, [], Bool, false};
-ghost use Rattle.gg_words.specs.Meaning as command_line;
-ghost use Rattle.gg_words.specs.Meaning.{texts};
-ghost use Rattle.gg_words.specs.declared.command.Cmd.TheVariants.{Replay, Resume, Run, Save};
+ghost use Rattle.std.specs.Prelude.{◌≡◌, []};
+ghost use Rattle.gg_words.specs.Meaning.{IsCommand, texts};
+ghost use Rattle.gg_words.specs.inside.Range.{AreInRange};
+ghost use Rattle.gg_words.specs.declared.command.Cmd.{Cmd};
 ghost use Rattle.golden_commands.specs.Bridges.{CanHandIn, models_in};
 ghost use Rattle.golden_commands.specs.inside.Bridges.{HaveModels};
 ghost use Rattle.golden_commands.specs.Handed.{AreHandedIn};
-ghost use Rattle.golden_commands.specs.Network.{RanNetwork};
-ghost use Rattle.golden_commands.specs.Partition.{to_run};
-ghost use Rattle.golden_commands.specs.inside.Outcome.{CallEnded};
-ghost use Rattle.golden_commands.specs.Outcome.{Answered};
+ghost use Rattle.golden_commands.specs.inside.Outcome.{CallEnded, Did, IsByNetwork};
 ghost use Rattle.gg_io.specs.inside.Endings.{said_by};
-ghost use Rattle.gg_io.specs.Ends.{Reports, Tells, loads_of, puts_of};
+ghost use Rattle.gg_io.specs.Ends.{Reports, loads_of, puts_of};
 ghost use Rattle.golden_commands.specs.Promised.{Promised};
-ghost use Rattle.golden_commands.specs.Stepped.{ToldByNetwork};
-ghost use Rattle.gg_io.specs.Said.{Said};
 ghost use Rattle.gg_io.specs.WentOn.{ShelfWentOn, SinkWentOn};
 
 use crate::check::check;
@@ -26,36 +21,30 @@ use crate::run::run;
 use crate::save::save;
 use gg_bits::Name;
 use gg_bridge::Bridge;
-use gg_cut_plan::Models;
 use gg_io::{Ending, Gate, Shelf, Sink, report};
 use gg_partfile::one_answer;
 use gg_words::{Cmd, numbers_are_in_range, one_meaning, words};
-use golden_commands::{end_at_words, models_of};
+use golden_commands::{FedWords, Tools, end_at_words, models_of};
 use std::alloc::Global;
 use std::thread::Threads;
 
-// Does the command `run`.
-fn do_run<R: Threads + Sync, S: Shelf, K: Sink, G: Gate + Sync, B: Bridge + Send + Drop>(
-    rt: &R,
-    alloc: Global,
+// Does a command.
+fn do_command<R: Threads + Sync, S: Shelf, K: Sink, G: Gate + Sync, B: Bridge + Send + Drop>(
+    tools: &Tools<'_, R, G>,
     cmd: &Cmd,
-    models: &Models,
     bridges: Vec<(Name, B)>,
     shelf: &mut S,
     out: &mut K,
-    gate: &G,
 ) -> Result<(), Ending>
-    requires is { (circuit partition trace : List ℕ) × (capacity workers : ℕ) × (mono : Bool) × (cmd.now ≡ Run circuit partition trace capacity workers mono) }
-    requires asked { (words : List (List ℕ)) × command_line.IsCommand words cmd.now }
-    requires handed { AreHandedIn models.now }
-    requires bridges { HaveModels B.piece B.state bridges.items models.now }
-    ensures ended { (words : List (List ℕ)) → command_line.IsCommand words cmd.now → CallEnded models.now words (loads_of S.Shelf shelf.old shelf.new) (puts_of K.Sink out.old out.new) result }
-    ensures network { (circuit partition trace : List ℕ) (capacity workers : ℕ) → cmd.now ≡ Run circuit partition trace capacity workers false → (said_by result).status ≡ 0
-        → RanNetwork (to_run models.now) (loads_of S.Shelf shelf.old shelf.new) (puts_of K.Sink out.old out.new) circuit partition trace capacity }
+    requires range { AreInRange cmd.now }
+    requires handed { AreHandedIn tools.now.models.now }
+    requires bridges { HaveModels B.piece B.state bridges.items tools.now.models.now }
+    ensures did { Did tools.now.models.now cmd.now (loads_of S.Shelf shelf.old shelf.new) (puts_of K.Sink out.old out.new) result }
     ensures shelf { ShelfWentOn S.Shelf shelf.old shelf.new }
     ensures out { SinkWentOn K.Sink out.old out.new }
 {
-    numbers_are_in_range();
+    let alloc = tools.alloc;
+    let models = tools.models;
     match cmd {
         Cmd::Run {
             circuit,
@@ -64,87 +53,34 @@ fn do_run<R: Threads + Sync, S: Shelf, K: Sink, G: Gate + Sync, B: Bridge + Send
             capacity,
             workers,
             mono,
-        } => run(
-            rt,
-            alloc,
-            circuit.as_str(),
-            partition.as_str(),
-            trace.as_str(),
-            *capacity,
-            *workers,
-            *mono,
-            models,
-            bridges,
-            shelf,
-            out,
-            gate,
-        ),
-        _ => unreachable!(),
-    }
-}
-
-// Does the command `replay`.
-fn do_replay<S: Shelf, K: Sink, B: Bridge + Send + Drop>(
-    alloc: Global,
-    cmd: &Cmd,
-    models: &Models,
-    bridges: Vec<(Name, B)>,
-    shelf: &mut S,
-    out: &mut K,
-) -> Result<(), Ending>
-    requires is { (circuit partition trace steps : List ℕ) × (capacity : ℕ) × (cmd.now ≡ Replay circuit partition trace steps capacity) }
-    requires asked { (words : List (List ℕ)) × command_line.IsCommand words cmd.now }
-    requires handed { AreHandedIn models.now }
-    requires bridges { HaveModels B.piece B.state bridges.items models.now }
-    ensures ended { (words : List (List ℕ)) → command_line.IsCommand words cmd.now → CallEnded models.now words (loads_of S.Shelf shelf.old shelf.new) (puts_of K.Sink out.old out.new) result }
-    ensures steps { (circuit partition trace steps : List ℕ) (capacity : ℕ) → cmd.now ≡ Replay circuit partition trace steps capacity
-        → ToldByNetwork (to_run models.now) (loads_of S.Shelf shelf.old shelf.new).files (puts_of K.Sink out.old out.new) circuit partition trace steps capacity (said_by result) }
-    ensures shelf { ShelfWentOn S.Shelf shelf.old shelf.new }
-    ensures out { SinkWentOn K.Sink out.old out.new }
-{
-    numbers_are_in_range();
-    match cmd {
+        } => {
+            let words = FedWords::new(circuit, partition, trace, *capacity);
+            run(tools, &words, *workers, *mono, bridges, shelf, out)
+        }
         Cmd::Replay {
             circuit,
             partition,
             trace,
             steps,
             capacity,
-        } => replay(
-            alloc,
-            circuit.as_str(),
-            partition.as_str(),
-            trace.as_str(),
-            steps.as_str(),
-            *capacity,
-            models,
-            bridges,
-            shelf,
-            out,
-        ),
-        _ => unreachable!(),
-    }
-}
-
-// Does the command `save`.
-fn do_save<R: Threads + Sync, S: Shelf, K: Sink, G: Gate + Sync>(
-    rt: &R,
-    alloc: Global,
-    cmd: &Cmd,
-    models: &Models,
-    shelf: &mut S,
-    out: &mut K,
-    gate: &G,
-) -> Result<(), Ending>
-    requires is { (circuit partition trace : List ℕ) × (at capacity workers : ℕ) × (cmd.now ≡ Save circuit partition trace at capacity workers) }
-    requires asked { (words : List (List ℕ)) × command_line.IsCommand words cmd.now }
-    requires handed { AreHandedIn models.now }
-    ensures ended { (words : List (List ℕ)) → command_line.IsCommand words cmd.now → CallEnded models.now words (loads_of S.Shelf shelf.old shelf.new) (puts_of K.Sink out.old out.new) result }
-    ensures shelf { ShelfWentOn S.Shelf shelf.old shelf.new }
-    ensures out { SinkWentOn K.Sink out.old out.new }
-{
-    numbers_are_in_range();
-    match cmd {
+        } => {
+            let words = FedWords::new(circuit, partition, trace, *capacity);
+            replay(alloc, &words, steps.as_str(), models, bridges, shelf, out)
+        }
+        Cmd::Check {
+            circuit,
+            partition,
+            capacity,
+        } => {
+            let circuit = circuit.as_str();
+            let partition = partition.as_str();
+            check(alloc, circuit, partition, *capacity, models, shelf, out)
+        }
+        Cmd::Demo {
+            seed,
+            size,
+            workers,
+        } => demo(tools, *seed, *size, *workers, out),
         Cmd::Save {
             circuit,
             partition,
@@ -152,43 +88,10 @@ fn do_save<R: Threads + Sync, S: Shelf, K: Sink, G: Gate + Sync>(
             at,
             capacity,
             workers,
-        } => save(
-            rt,
-            alloc,
-            circuit.as_str(),
-            partition.as_str(),
-            trace.as_str(),
-            *at,
-            *capacity,
-            *workers,
-            models,
-            shelf,
-            out,
-            gate,
-        ),
-        _ => unreachable!(),
-    }
-}
-
-// Does the command `resume`.
-fn do_resume<R: Threads + Sync, S: Shelf, K: Sink, G: Gate + Sync>(
-    rt: &R,
-    alloc: Global,
-    cmd: &Cmd,
-    models: &Models,
-    shelf: &mut S,
-    out: &mut K,
-    gate: &G,
-) -> Result<(), Ending>
-    requires is { (circuit partition trace snap : List ℕ) × (capacity workers : ℕ) × (cmd.now ≡ Resume circuit partition trace snap capacity workers) }
-    requires asked { (words : List (List ℕ)) × command_line.IsCommand words cmd.now }
-    requires handed { AreHandedIn models.now }
-    ensures ended { (words : List (List ℕ)) → command_line.IsCommand words cmd.now → CallEnded models.now words (loads_of S.Shelf shelf.old shelf.new) (puts_of K.Sink out.old out.new) result }
-    ensures shelf { ShelfWentOn S.Shelf shelf.old shelf.new }
-    ensures out { SinkWentOn K.Sink out.old out.new }
-{
-    numbers_are_in_range();
-    match cmd {
+        } => {
+            let words = FedWords::new(circuit, partition, trace, *capacity);
+            save(tools, &words, *at, *workers, shelf, out)
+        }
         Cmd::Resume {
             circuit,
             partition,
@@ -196,74 +99,14 @@ fn do_resume<R: Threads + Sync, S: Shelf, K: Sink, G: Gate + Sync>(
             snap,
             capacity,
             workers,
-        } => resume(
-            rt,
-            alloc,
-            circuit.as_str(),
-            partition.as_str(),
-            trace.as_str(),
-            snap.as_str(),
-            *capacity,
-            *workers,
-            models,
-            shelf,
-            out,
-            gate,
-        ),
-        _ => unreachable!(),
+        } => {
+            let words = FedWords::new(circuit, partition, trace, *capacity);
+            resume(tools, &words, snap.as_str(), *workers, shelf, out)
+        }
     }
 }
 
-// Does a command of the command line.
-fn do_command<R: Threads + Sync, S: Shelf, K: Sink, G: Gate + Sync, B: Bridge + Send + Drop>(
-    rt: &R,
-    alloc: Global,
-    cmd: &Cmd,
-    models: &Models,
-    bridges: Vec<(Name, B)>,
-    shelf: &mut S,
-    out: &mut K,
-    gate: &G,
-) -> Result<(), Ending>
-    requires asked { (words : List (List ℕ)) × command_line.IsCommand words cmd.now }
-    requires handed { AreHandedIn models.now }
-    requires bridges { HaveModels B.piece B.state bridges.items models.now }
-    ensures ended { (words : List (List ℕ)) → command_line.IsCommand words cmd.now → CallEnded models.now words (loads_of S.Shelf shelf.old shelf.new) (puts_of K.Sink out.old out.new) result }
-    ensures network { (circuit partition trace : List ℕ) (capacity workers : ℕ) → cmd.now ≡ Run circuit partition trace capacity workers false → (said_by result).status ≡ 0
-        → RanNetwork (to_run models.now) (loads_of S.Shelf shelf.old shelf.new) (puts_of K.Sink out.old out.new) circuit partition trace capacity }
-    ensures steps { (circuit partition trace steps : List ℕ) (capacity : ℕ) → cmd.now ≡ Replay circuit partition trace steps capacity
-        → ToldByNetwork (to_run models.now) (loads_of S.Shelf shelf.old shelf.new).files (puts_of K.Sink out.old out.new) circuit partition trace steps capacity (said_by result) }
-    ensures shelf { ShelfWentOn S.Shelf shelf.old shelf.new }
-    ensures out { SinkWentOn K.Sink out.old out.new }
-{
-    numbers_are_in_range();
-    match cmd {
-        Cmd::Run { .. } => do_run(rt, alloc, cmd, models, bridges, shelf, out, gate),
-        Cmd::Replay { .. } => do_replay(alloc, cmd, models, bridges, shelf, out),
-        Cmd::Check {
-            circuit,
-            partition,
-            capacity,
-        } => check(
-            alloc,
-            circuit.as_str(),
-            partition.as_str(),
-            *capacity,
-            models,
-            shelf,
-            out,
-        ),
-        Cmd::Demo {
-            seed,
-            size,
-            workers,
-        } => demo(rt, alloc, *seed, *size, *workers, out, gate),
-        Cmd::Save { .. } => do_save(rt, alloc, cmd, models, shelf, out, gate),
-        Cmd::Resume { .. } => do_resume(rt, alloc, cmd, models, shelf, out, gate),
-    }
-}
-
-// Does a command of the command line, with bridges that are handed in.
+// Does a command, with bridges that are handed in.
 fn do_handed<R: Threads + Sync, S: Shelf, K: Sink, G: Gate + Sync, B: Bridge + Send + Drop>(
     rt: &R,
     alloc: Global,
@@ -273,20 +116,20 @@ fn do_handed<R: Threads + Sync, S: Shelf, K: Sink, G: Gate + Sync, B: Bridge + S
     out: &mut K,
     gate: &G,
 ) -> Result<(), Ending>
-    requires asked { (words : List (List ℕ)) × command_line.IsCommand words cmd.now }
+    requires range { AreInRange cmd.now }
     requires bridges { CanHandIn B.piece B.state bridges.items }
-    ensures ended { (words : List (List ℕ)) → command_line.IsCommand words cmd.now
-        → CallEnded (models_in B.piece bridges.items) words (loads_of S.Shelf shelf.old shelf.new)
-        (puts_of K.Sink out.old out.new) result }
-    ensures network { (circuit partition trace : List ℕ) (capacity workers : ℕ) → cmd.now ≡ Run circuit partition trace capacity workers false → (said_by result).status ≡ 0
-        → RanNetwork (to_run (models_in B.piece bridges.items)) (loads_of S.Shelf shelf.old shelf.new) (puts_of K.Sink out.old out.new) circuit partition trace capacity }
-    ensures steps { (circuit partition trace steps : List ℕ) (capacity : ℕ) → cmd.now ≡ Replay circuit partition trace steps capacity
-        → ToldByNetwork (to_run (models_in B.piece bridges.items)) (loads_of S.Shelf shelf.old shelf.new).files (puts_of K.Sink out.old out.new) circuit partition trace steps capacity (said_by result) }
+    ensures did { Did (models_in B.piece bridges.items) cmd.now (loads_of S.Shelf shelf.old shelf.new) (puts_of K.Sink out.old out.new) result }
     ensures shelf { ShelfWentOn S.Shelf shelf.old shelf.new }
     ensures out { SinkWentOn K.Sink out.old out.new }
 {
     let models = models_of(alloc, bridges.as_slice())?;
-    do_command(rt, alloc, cmd, &models, bridges, shelf, out, gate)
+    let tools = Tools {
+        rt,
+        alloc,
+        models: &models,
+        gate,
+    };
+    do_command(&tools, cmd, bridges, shelf, out)
 }
 
 // Does the command of the words.
@@ -301,13 +144,12 @@ fn command<R: Threads + Sync, S: Shelf, K: Sink, G: Gate + Sync, B: Bridge + Sen
 ) -> Result<(), Ending>
     requires { CanHandIn B.piece B.state bridges.items }
     ensures ended { CallEnded (models_in B.piece bridges.items) (texts given.now) (loads_of S.Shelf shelf.old shelf.new) (puts_of K.Sink out.old out.new) result }
-    ensures network { (circuit partition trace : List ℕ) (capacity workers : ℕ) → command_line.IsCommand (texts given.now) (Run circuit partition trace capacity workers false) → (said_by result).status ≡ 0
-        → RanNetwork (to_run (models_in B.piece bridges.items)) (loads_of S.Shelf shelf.old shelf.new) (puts_of K.Sink out.old out.new) circuit partition trace capacity }
-    ensures steps { (circuit partition trace steps : List ℕ) (capacity : ℕ) → command_line.IsCommand (texts given.now) (Replay circuit partition trace steps capacity)
-        → ToldByNetwork (to_run (models_in B.piece bridges.items)) (loads_of S.Shelf shelf.old shelf.new).files (puts_of K.Sink out.old out.new) circuit partition trace steps capacity (said_by result) }
+    ensures network { (asked : Cmd) → IsCommand (texts given.now) asked
+        → IsByNetwork (models_in B.piece bridges.items) asked (loads_of S.Shelf shelf.old shelf.new) (puts_of K.Sink out.old out.new) (said_by result) }
     ensures shelf { ShelfWentOn S.Shelf shelf.old shelf.new }
     ensures out { SinkWentOn K.Sink out.old out.new }
 {
+    numbers_are_in_range();
     match words(alloc, given) {
         Ok(cmd) => do_handed(rt, alloc, &cmd, bridges, shelf, out, gate),
         Err(fault) => Err(end_at_words(alloc, &fault)),
@@ -325,31 +167,6 @@ fn status_of<E: Sink>(ended: &Result<(), Ending>, err: &mut E) -> u8
         Ok(()) => 0,
         Err(ending) => report(ending, err),
     }
-}
-
-// Does the command of the words, and reports how it ended.
-fn answer<R: Threads + Sync, S: Shelf, K: Sink, E: Sink, G: Gate + Sync, B: Bridge + Send + Drop>(
-    rt: &R,
-    alloc: Global,
-    words: &[String],
-    shelf: &mut S,
-    out: &mut K,
-    err: &mut E,
-    gate: &G,
-    bridges: Vec<(Name, B)>,
-) -> u8
-    requires { CanHandIn B.piece B.state bridges.items }
-    ensures answered { Answered (models_in B.piece bridges.items) (texts words.now) (loads_of S.Shelf shelf.old shelf.new) (puts_of K.Sink out.old out.new) (puts_of E.Sink err.old err.new) result }
-    ensures network { (circuit partition trace : List ℕ) (capacity workers : ℕ) → command_line.IsCommand (texts words.now) (Run circuit partition trace capacity workers false) → result ≡ 0
-        → RanNetwork (to_run (models_in B.piece bridges.items)) (loads_of S.Shelf shelf.old shelf.new) (puts_of K.Sink out.old out.new) circuit partition trace capacity }
-    ensures steps { (circuit partition trace steps : List ℕ) (capacity : ℕ) → command_line.IsCommand (texts words.now) (Replay circuit partition trace steps capacity)
-        → (said : Said) × Tells (puts_of E.Sink err.old err.new) result said × ToldByNetwork (to_run (models_in B.piece bridges.items)) (loads_of S.Shelf shelf.old shelf.new).files (puts_of K.Sink out.old out.new) circuit partition trace steps capacity said }
-    ensures shelf { ShelfWentOn S.Shelf shelf.old shelf.new }
-    ensures out { SinkWentOn K.Sink out.old out.new }
-    ensures err { SinkWentOn E.Sink err.old err.new }
-{
-    let ended = command(rt, alloc, words, bridges, shelf, out, gate);
-    status_of(&ended, err)
 }
 
 /// A call of the program. Does the command of the words, with files from `shelf`. Writes the text to `out`, and at most one line to `err`, which the
@@ -459,5 +276,6 @@ pub fn golden_with<R: Threads + Sync, S: Shelf, K: Sink, E: Sink, G: Gate + Sync
     resumed_runs_go_on();
     one_meaning();
     one_answer();
-    answer(rt, alloc, words, shelf, out, err, gate, bridges)
+    let ended = command(rt, alloc, words, bridges, shelf, out, gate);
+    status_of(&ended, err)
 }

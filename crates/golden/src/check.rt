@@ -1,13 +1,14 @@
 //! The command `check`.
 ghost use Rattle.std.specs.Prelude.{ℕ, List};
 ghost use Rattle.gg_words.specs.Range.{IsCapacity};
+ghost use Rattle.gg_words.specs.declared.command.Cmd.TheVariants.{Check};
 ghost use Rattle.golden_commands.specs.Case.{IsCase};
 ghost use Rattle.golden_commands.specs.Check.{IsCutTextOf};
-ghost use Rattle.golden_commands.specs.Commands.{asking, read_order};
 ghost use Rattle.golden_commands.specs.Handed.{AreHandedIn};
-ghost use Rattle.golden_commands.specs.Partition.{Known, to_run};
-ghost use Rattle.gg_io.specs.inside.Endings.{EndedOn, PrintsOn};
-ghost use Rattle.gg_io.specs.Order.{IsOnly, Write};
+ghost use Rattle.golden_commands.specs.Partition.{Known};
+ghost use Rattle.golden_commands.specs.inside.Outcome.{Did};
+ghost use Rattle.gg_io.specs.inside.Endings.{PrintsOn};
+ghost use Rattle.gg_io.specs.Order.{IsOnly};
 ghost use Rattle.gg_io.specs.Ends.{loads_of, puts_of};
 ghost use Rattle.gg_io.specs.WentOn.{ShelfWentOn, SinkWentOn};
 
@@ -42,9 +43,7 @@ pub(crate) fn check<S: Shelf, K: Sink>(
 ) -> Result<(), Ending>
     requires capacity { IsCapacity capacity }
     requires handed { AreHandedIn models.now }
-    ensures ended { EndedOn (loads_of S.Shelf shelf.old shelf.new) (puts_of K.Sink out.old out.new)
-        (read_order (to_run models.now) (asking circuit.now partition.now capacity)
-        (λ c p. Write (IsCutTextOf c p capacity))) result }
+    ensures did { Did models.now (Check circuit.now partition.now capacity) (loads_of S.Shelf shelf.old shelf.new) (puts_of K.Sink out.old out.new) result }
     ensures shelf { ShelfWentOn S.Shelf shelf.old shelf.new }
     ensures out { SinkWentOn K.Sink out.old out.new }
 {

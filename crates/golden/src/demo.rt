@@ -33,7 +33,7 @@ use gg_order::{Design, run_once};
 use gg_partfile::Request;
 use gg_rows::{Sums, circuit_text, partition_text, put_summary, sum_net, trace_text};
 use gg_trace::Trace;
-use golden_commands::{Case, Cut, Fed, cut_request, inputs_of, request_of};
+use golden_commands::{Case, Cut, Fed, Tools, cut_request, inputs_of, request_of};
 use std::alloc::{AllocError, Global};
 use std::marker::Brand;
 use std::thread::Threads;
@@ -146,11 +146,9 @@ fn is_whole(fed: &Fed, size: u32) -> bool
 
 // Runs the network of the plan, and folds its rows. Its channels carry the values of a flow.
 fn sum_fed<R: Threads + Sync, Z: Streams, G: Gate + Sync>(
-    rt: &R,
-    alloc: Global,
+    tools: &Tools<'_, R, G>,
     fed: &Fed,
     workers: u32,
-    gate: &G,
 ) -> Result<Sums, AllocError>
     requires few { workers ≤ 64 }
     requires run { (replay : IsToReplay fed.now Z.flow) × (2 ≤ length (plan_circuit replay.run.design replay.run.request replay.run.models).outs) }
@@ -159,27 +157,25 @@ fn sum_fed<R: Threads + Sync, Z: Streams, G: Gate + Sync>(
 {
     let case = &fed.case;
     sum_net::<R, Echo, Z, G>(
-        rt,
-        alloc,
+        tools.rt,
+        tools.alloc,
         &case.design,
         &case.cut.plan,
         &fed.trace,
         workers,
-        Vec::new(alloc),
-        gate,
+        Vec::new(tools.alloc),
+        tools.gate,
     )
 }
 
 // Runs the network of a demo, and writes the summary.
 fn print_demo<R: Threads + Sync, K: Sink, G: Gate + Sync>(
-    rt: &R,
-    alloc: Global,
+    tools: &Tools<'_, R, G>,
     fed: &Fed,
     seed: u32,
     size: u32,
     workers: u32,
     out: &mut K,
-    gate: &G,
 ) -> Result<(), Ending>
     requires few { workers ≤ 64 }
     requires some { 0 < size }
@@ -192,8 +188,8 @@ fn print_demo<R: Threads + Sync, K: Sink, G: Gate + Sync>(
     if !is_whole(fed, size) {
         return Err(Ending::NoMemory);
     }
-    let sums = sum_fed::<R, Brand, G>(rt, alloc, fed, workers, gate)?;
-    put_summary(alloc, seed, size, &sums, out)
+    let sums = sum_fed::<R, Brand, G>(tools, fed, workers)?;
+    put_summary(tools.alloc, seed, size, &sums, out)
 }
 
 // `demo`: makes a circuit, a partition and a trace from a seed and a number of stages, runs their network by this many
@@ -204,13 +200,11 @@ fn print_demo<R: Threads + Sync, K: Sink, G: Gate + Sync>(
 // Returns `Unwritten` if a put fails, and `NoMemory` if an allocation fails. It would also return `NoMemory` if the texts
 // were refused, which they never are; that is tested, not proved.
 pub(crate) fn demo<R: Threads + Sync, K: Sink, G: Gate + Sync>(
-    rt: &R,
-    alloc: Global,
+    tools: &Tools<'_, R, G>,
     seed: u32,
     size: u32,
     workers: u32,
     out: &mut K,
-    gate: &G,
 ) -> Result<(), Ending>
     requires few { workers ≤ 64 }
     requires some { 0 < size }
@@ -218,8 +212,8 @@ pub(crate) fn demo<R: Threads + Sync, K: Sink, G: Gate + Sync>(
     ensures ended { PrintsOrStops (puts_of K.Sink out.old out.new) (IsOnly (IsDemoText seed size)) (λ said. ⊥) result }
     ensures out { SinkWentOn K.Sink out.old out.new }
 {
-    match demo_fed(alloc, seed, size) {
-        Ok(fed) => print_demo(rt, alloc, &fed, seed, size, workers, out, gate),
+    match demo_fed(tools.alloc, seed, size) {
+        Ok(fed) => print_demo(tools, &fed, seed, size, workers, out),
         Err(_) => Err(Ending::NoMemory),
     }
 }

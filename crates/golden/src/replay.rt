@@ -5,16 +5,15 @@ ghost use Rattle.gg_io.specs.inside.Endings.{EndedOn, PrintsOrStops, said_by};
 ghost use Rattle.gg_io.specs.Order.{Load, Write};
 ghost use Rattle.gg_io.specs.WentOn.{ShelfWentOn, SinkWentOn};
 ghost use Rattle.gg_words.specs.Range.{IsCapacity};
+ghost use Rattle.gg_words.specs.declared.command.Cmd.TheVariants.{Replay};
 ghost use Rattle.gg_build.specs.inside.Build.{HasBridges};
 ghost use Rattle.golden_commands.specs.inside.Bridges.{HaveModels};
 ghost use Rattle.golden_commands.specs.Case.{IsFed};
-ghost use Rattle.golden_commands.specs.Commands.{asking};
-ghost use Rattle.golden_commands.specs.inside.Commands.{fed_order};
 ghost use Rattle.golden_commands.specs.Handed.{AreHandedIn};
 ghost use Rattle.golden_commands.specs.Partition.{to_run};
 ghost use Rattle.golden_commands.specs.Replay.{IsReplayOf, steps_file_for};
 ghost use Rattle.golden_commands.specs.inside.Stepped.{IsToldText, TellsToldStep, ToldBehind};
-ghost use Rattle.golden_commands.specs.Stepped.{ToldByNetwork};
+ghost use Rattle.golden_commands.specs.inside.Outcome.{Did};
 
 use gg_bits::{Name, STEPS_LIMIT};
 use gg_bridge::Bridge;
@@ -23,7 +22,7 @@ use gg_front::one_meaning;
 use gg_io::{Ending, Shelf, Sink, load};
 use gg_order::run_once;
 use gg_replay::read_steps;
-use golden_commands::{Fed, names_of, read_fed, replay_net};
+use golden_commands::{Fed, FedWords, names_of, read_fed, replay_net};
 use std::alloc::Global;
 use std::marker::Brand;
 
@@ -77,30 +76,21 @@ fn replay_steps<S: Shelf, K: Sink, B: Bridge + Send + Drop>(
 // for each channel. `models` are the models of the bridges.
 pub(crate) fn replay<S: Shelf, K: Sink, B: Bridge + Send + Drop>(
     alloc: Global,
-    circuit: &str,
-    partition: &str,
-    trace: &str,
+    words: &FedWords<'_>,
     steps: &str,
-    capacity: u32,
     models: &Models,
     bridges: Vec<(Name, B)>,
     shelf: &mut S,
     out: &mut K,
 ) -> Result<(), Ending>
-    requires capacity { IsCapacity capacity }
+    requires capacity { IsCapacity words.now.capacity }
     requires handed { AreHandedIn models.now }
     requires bridges { HaveModels B.piece B.state bridges.items models.now }
-    ensures ended { EndedOn (loads_of S.Shelf shelf.old shelf.new) (puts_of K.Sink out.old out.new)
-        (fed_order (to_run models.now) (asking circuit.now partition.now capacity) trace.now
-        (λ c p t. Load (steps_file_for (to_run models.now) c p t capacity steps.now)
-        (λ s. Write (IsReplayOf (to_run models.now) c p t capacity s)))) result }
-    ensures network { ToldByNetwork (to_run models.now) (loads_of S.Shelf shelf.old shelf.new).files
-        (puts_of K.Sink out.old out.new) circuit.now partition.now trace.now steps.now capacity (said_by result) }
+    ensures did { Did models.now (Replay words.now.circuit.now words.now.partition.now words.now.trace.now steps.now words.now.capacity)
+        (loads_of S.Shelf shelf.old shelf.new) (puts_of K.Sink out.old out.new) result }
     ensures shelf { ShelfWentOn S.Shelf shelf.old shelf.new }
     ensures out { SinkWentOn K.Sink out.old out.new }
 {
-    let fed = read_fed(
-        alloc, shelf, circuit, partition, trace, models, false, capacity,
-    )?;
+    let fed = read_fed(alloc, shelf, words, models, false)?;
     replay_steps(alloc, &fed, models, bridges, steps, shelf, out)
 }

@@ -15,18 +15,18 @@ ghost use Rattle.gg_io.specs.Ends.{loads_of, puts_of};
 ghost use Rattle.gg_io.specs.Order.{IsOnly, Load, Write};
 ghost use Rattle.gg_io.specs.WentOn.{ShelfWentOn, SinkWentOn};
 ghost use Rattle.gg_words.specs.Range.{IsCapacity};
+ghost use Rattle.gg_words.specs.declared.command.Cmd.TheVariants.{Resume};
 ghost use Rattle.golden_commands.specs.Case.{IsFed};
-ghost use Rattle.golden_commands.specs.Commands.{asking};
-ghost use Rattle.golden_commands.specs.inside.Commands.{fed_order};
 ghost use Rattle.golden_commands.specs.Handed.{AreHandedIn};
 ghost use Rattle.golden_commands.specs.Lines.{few_rows};
 ghost use Rattle.golden_commands.specs.Partition.{to_save};
 ghost use Rattle.golden_commands.specs.Resumed.{CanBeResumed, IsResumedText, TellsLate, TellsNoSnap, rest_text, snap_file_for};
+ghost use Rattle.golden_commands.specs.inside.Outcome.{Did};
 ghost use Rattle.golden_commands.specs.inside.Runs.{TellsSnapOf, meant_by, resumed_rows};
 
 use gg_bits::SNAP_LIMIT;
 use gg_bridge::Echo;
-use gg_cut_plan::{Models, stop_ratios};
+use gg_cut_plan::stop_ratios;
 use gg_flat::Ports;
 use gg_front::one_meaning;
 use gg_io::{Ending, Gate, Shelf, Sink, load};
@@ -34,7 +34,9 @@ use gg_net::Streams;
 use gg_order::Design;
 use gg_rows::{print_from, trays_of};
 use gg_snap::{Snap, one_snapshot, plans_are_whole, plans_can_save, read_snap, restore};
-use golden_commands::{Fed, end_at_snap, end_few, read_fed, reference_of, shown_ports};
+use golden_commands::{
+    Fed, FedWords, Tools, end_at_snap, end_few, read_fed, reference_of, shown_ports,
+};
 use std::alloc::Global;
 use std::marker::Brand;
 use std::thread::Threads;
@@ -73,15 +75,12 @@ fn snap_in<'a>(
 
 // Prints the run that begins with a snapshot, from the network of the plan. Its channels carry the values of a flow.
 fn print_since<R: Threads + Sync, Z: Streams, K: Sink, G: Gate + Sync>(
-    rt: &R,
-    alloc: Global,
+    tools: &Tools<'_, R, G>,
     fed: &Fed,
-    _models: &Models,
     ports: &Ports,
     snap: Snap<'_>,
     workers: u32,
     out: &mut K,
-    gate: &G,
 ) -> Result<(), Ending>
     requires few { workers ≤ 64 }
     requires run { (start : Start) × (can : CanBegin fed.now.case.cut.plan fed.now.case.design snap.cycle snap.state start
@@ -95,11 +94,12 @@ fn print_since<R: Threads + Sync, Z: Streams, K: Sink, G: Gate + Sync>(
     let design = &fed.case.design;
     let plan = &fed.case.cut.plan;
     let begin = snap.cycle();
+    let alloc = tools.alloc;
     let stops = stop_ratios(alloc, design.tree(), plan.ratios.as_slice())?;
     let net = restore::<Echo, Z>(alloc, plan, design, &fed.trace, snap)?;
     net.kept();
     print_from::<R, Echo, Z, K, G>(
-        rt,
+        tools.rt,
         alloc,
         net,
         begin,
@@ -108,110 +108,91 @@ fn print_since<R: Threads + Sync, Z: Streams, K: Sink, G: Gate + Sync>(
         ports,
         workers,
         out,
-        gate,
+        tools.gate,
     )
 }
 
 // Prints the run that begins with a snapshot of the reference circuit: a header, and the rows starting at the snapshot's cycle.
 fn print_rest<R: Threads + Sync, K: Sink, G: Gate + Sync>(
-    rt: &R,
-    alloc: Global,
+    tools: &Tools<'_, R, G>,
     fed: &Fed,
-    models: &Models,
     snap: Snap<'_>,
     workers: u32,
     out: &mut K,
-    gate: &G,
 ) -> Result<(), Ending>
     requires few { workers ≤ 64 }
-    requires fed { (circuit : List ℕ) × (partition : List ℕ) × (trace : List ℕ) × (capacity : ℕ) × IsFed (to_save models.now) circuit partition trace capacity fed.now }
+    requires fed { (circuit : List ℕ) × (partition : List ℕ) × (trace : List ℕ) × (capacity : ℕ) × IsFed (to_save tools.now.models.now) circuit partition trace capacity fed.now }
     requires within { snap.cycle ≤ fed.now.trace.rows }
     requires typed { IsState (plan_reference fed.now.case.design fed.now.case.cut.request) snap.state }
-    ensures prints { PrintsOn K.Sink out.old out.new (rest_text (meant_by fed.now) snap.entry.cycle (resumed_rows models.now fed.now snap.entry.cycle snap.entry.state)) result }
+    ensures prints { PrintsOn K.Sink out.old out.new (rest_text (meant_by fed.now) snap.entry.cycle (resumed_rows tools.now.models.now fed.now snap.entry.cycle snap.entry.state)) result }
     ensures out { SinkWentOn K.Sink out.old out.new }
 {
-    let ports = shown_ports(alloc, &fed.case.design, &fed.case.cut.request)?;
-    print_since::<R, Brand, K, G>(rt, alloc, fed, models, &ports, snap, workers, out, gate)
+    let ports = shown_ports(tools.alloc, &fed.case.design, &fed.case.cut.request)?;
+    print_since::<R, Brand, K, G>(tools, fed, &ports, snap, workers, out)
 }
 
 // `resume`, after all files were loaded and all but the snapshot's were read.
 fn resume_bytes<R: Threads + Sync, K: Sink, G: Gate + Sync>(
-    rt: &R,
-    alloc: Global,
+    tools: &Tools<'_, R, G>,
     fed: &Fed,
-    models: &Models,
     bytes: Vec<u8>,
     workers: u32,
     out: &mut K,
-    gate: &G,
 ) -> Result<(), Ending>
     requires few { workers ≤ 64 }
-    requires fed { (circuit : List ℕ) × (partition : List ℕ) × (trace : List ℕ) × (capacity : ℕ) × IsFed (to_save models.now) circuit partition trace capacity fed.now }
-    ensures ended { (circuit partition trace : List ℕ) (capacity : ℕ) → IsFed (to_save models.now) circuit partition trace capacity fed.now
-        → PrintsOrStops (puts_of K.Sink out.old out.new) (λ text. CanBeResumed (to_save models.now) circuit partition trace bytes.items × IsOnly (IsResumedText (to_save models.now) circuit partition trace bytes.items) text)
-        (λ said. TellsNoSnap (to_save models.now) circuit partition trace bytes.items said ⊎ TellsLate (to_save models.now) circuit partition trace bytes.items said) result }
+    requires fed { (circuit : List ℕ) × (partition : List ℕ) × (trace : List ℕ) × (capacity : ℕ) × IsFed (to_save tools.now.models.now) circuit partition trace capacity fed.now }
+    ensures ended { (circuit partition trace : List ℕ) (capacity : ℕ) → IsFed (to_save tools.now.models.now) circuit partition trace capacity fed.now
+        → PrintsOrStops (puts_of K.Sink out.old out.new) (λ text. CanBeResumed (to_save tools.now.models.now) circuit partition trace bytes.items × IsOnly (IsResumedText (to_save tools.now.models.now) circuit partition trace bytes.items) text)
+        (λ said. TellsNoSnap (to_save tools.now.models.now) circuit partition trace bytes.items said ⊎ TellsLate (to_save tools.now.models.now) circuit partition trace bytes.items said) result }
     ensures out { SinkWentOn K.Sink out.old out.new }
 {
     one_meaning();
     one_snapshot();
     plans_can_save();
     plans_are_whole();
-    let reference = reference_of(alloc, &fed.case)?;
-    let snap = snap_in(alloc, &reference, fed.trace.rows(), bytes)?;
-    print_rest(rt, alloc, fed, models, snap, workers, out, gate)
+    let reference = reference_of(tools.alloc, &fed.case)?;
+    let snap = snap_in(tools.alloc, &reference, fed.trace.rows(), bytes)?;
+    print_rest(tools, fed, snap, workers, out)
 }
 
 // `resume`, after the circuit, the partition and the trace were read.
 fn resume_fed<R: Threads + Sync, S: Shelf, K: Sink, G: Gate + Sync>(
-    rt: &R,
-    alloc: Global,
+    tools: &Tools<'_, R, G>,
     fed: &Fed,
-    models: &Models,
     snap: &str,
     workers: u32,
     shelf: &mut S,
     out: &mut K,
-    gate: &G,
 ) -> Result<(), Ending>
     requires few { workers ≤ 64 }
-    requires fed { (circuit : List ℕ) × (partition : List ℕ) × (trace : List ℕ) × (capacity : ℕ) × IsFed (to_save models.now) circuit partition trace capacity fed.now }
-    ensures ended { (circuit partition trace : List ℕ) (capacity : ℕ) → IsFed (to_save models.now) circuit partition trace capacity fed.now
-        → EndedOn (loads_of S.Shelf shelf.old shelf.new) (puts_of K.Sink out.old out.new) (Load (snap_file_for (to_save models.now) circuit partition trace snap.now) (λ s. Write (IsResumedText (to_save models.now) circuit partition trace s))) result }
+    requires fed { (circuit : List ℕ) × (partition : List ℕ) × (trace : List ℕ) × (capacity : ℕ) × IsFed (to_save tools.now.models.now) circuit partition trace capacity fed.now }
+    ensures ended { (circuit partition trace : List ℕ) (capacity : ℕ) → IsFed (to_save tools.now.models.now) circuit partition trace capacity fed.now
+        → EndedOn (loads_of S.Shelf shelf.old shelf.new) (puts_of K.Sink out.old out.new) (Load (snap_file_for (to_save tools.now.models.now) circuit partition trace snap.now) (λ s. Write (IsResumedText (to_save tools.now.models.now) circuit partition trace s))) result }
     ensures shelf { ShelfWentOn S.Shelf shelf.old shelf.new }
     ensures out { SinkWentOn K.Sink out.old out.new }
 {
-    let bytes = load(alloc, shelf, snap, SNAP_LIMIT)?;
-    resume_bytes(rt, alloc, fed, models, bytes, workers, out, gate)
+    let bytes = load(tools.alloc, shelf, snap, SNAP_LIMIT)?;
+    resume_bytes(tools, fed, bytes, workers, out)
 }
 
 // `resume`: reads the circuit, the partition, the trace and the snapshot, and writes the text of the run, which begins with the snapshot, of the
 // circuit with the partition's pipes. These models of bridges are known, but the partition may have no bridge.
 pub(crate) fn resume<R: Threads + Sync, S: Shelf, K: Sink, G: Gate + Sync>(
-    rt: &R,
-    alloc: Global,
-    circuit: &str,
-    partition: &str,
-    trace: &str,
+    tools: &Tools<'_, R, G>,
+    words: &FedWords<'_>,
     snap: &str,
-    capacity: u32,
     workers: u32,
-    models: &Models,
     shelf: &mut S,
     out: &mut K,
-    gate: &G,
 ) -> Result<(), Ending>
-    requires capacity { IsCapacity capacity }
+    requires capacity { IsCapacity words.now.capacity }
     requires few { workers ≤ 64 }
-    requires handed { AreHandedIn models.now }
-    ensures ended { EndedOn (loads_of S.Shelf shelf.old shelf.new) (puts_of K.Sink out.old out.new)
-        (fed_order (to_save models.now) (asking circuit.now partition.now capacity) trace.now
-        (λ c p t. Load (snap_file_for (to_save models.now) c p t snap.now)
-        (λ s. Write (IsResumedText (to_save models.now) c p t s)))) result }
+    requires handed { AreHandedIn tools.now.models.now }
+    ensures did { Did tools.now.models.now (Resume words.now.circuit.now words.now.partition.now words.now.trace.now snap.now words.now.capacity workers)
+        (loads_of S.Shelf shelf.old shelf.new) (puts_of K.Sink out.old out.new) result }
     ensures shelf { ShelfWentOn S.Shelf shelf.old shelf.new }
     ensures out { SinkWentOn K.Sink out.old out.new }
 {
-    let fed = read_fed(
-        alloc, shelf, circuit, partition, trace, models, true, capacity,
-    )?;
-    resume_fed(rt, alloc, &fed, models, snap, workers, shelf, out, gate)
+    let fed = read_fed(tools.alloc, shelf, words, tools.models, true)?;
+    resume_fed(tools, &fed, snap, workers, shelf, out)
 }

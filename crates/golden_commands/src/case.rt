@@ -11,6 +11,7 @@ ghost use Rattle.gg_io.specs.WentOn.{ShelfWentOn};
 
 use crate::partition::{Cut, read_cut};
 use crate::reading::{load_circuit, read_inputs};
+use gg_bits::Name;
 use gg_cut_plan::Models;
 use gg_io::{Ending, Shelf};
 use gg_order::Design;
@@ -46,6 +47,41 @@ impl Drop for Fed {
         let Self { case, trace } = self;
         drop(case);
         drop(trace);
+    }
+}
+
+/// What the words of a command say of the first three files, and of the channels that the partition doesn't name.
+#[derive(Clone, Copy)]
+pub struct FedWords<'w> {
+    /// The name of the circuit's file.
+    pub circuit: &'w str,
+    /// The name of the partition's file.
+    pub partition: &'w str,
+    /// The name of the trace's file.
+    pub trace: &'w str,
+    /// The capacity of the channels that the partition doesn't name.
+    pub capacity: u32,
+}
+
+impl<'w> FedWords<'w> {
+    /// These names, and this capacity.
+    pub fn new(
+        circuit: &'w Name,
+        partition: &'w Name,
+        trace: &'w Name,
+        capacity: u32,
+    ) -> FedWords<'w>
+        ensures circuit { result.circuit.now ≡ circuit.now }
+        ensures partition { result.partition.now ≡ partition.now }
+        ensures trace { result.trace.now ≡ trace.now }
+        ensures capacity { result.capacity ≡ capacity }
+    {
+        FedWords {
+            circuit: circuit.as_str(),
+            partition: partition.as_str(),
+            trace: trace.as_str(),
+            capacity,
+        }
     }
 }
 
@@ -101,23 +137,28 @@ pub fn read_case<S: Shelf>(
 pub fn read_fed<S: Shelf>(
     alloc: Global,
     shelf: &mut S,
-    circuit: &str,
-    partition: &str,
-    trace: &str,
+    words: &FedWords<'_>,
     models: &Models,
     saves: bool,
-    capacity: u32,
 ) -> Result<Fed, Ending>
-    requires capacity { IsCapacity capacity }
+    requires capacity { IsCapacity words.now.capacity }
     requires handed { AreHandedIn models.now }
-    ensures read { IfOk result (FedRead (record { models = models.now; saves = saves }) (S.files shelf.old) (asking circuit.now partition.now capacity) trace.now) }
+    ensures read { IfOk result (FedRead (record { models = models.now; saves = saves }) (S.files shelf.old) (asking words.now.circuit.now words.now.partition.now words.now.capacity) words.now.trace.now) }
     ensures refused { IfErr result (IfRefused (StopsBy (loads_of S.Shelf shelf.old shelf.new)
         (trace_order (record { models = models.now; saves = saves })
-        (asking circuit.now partition.now capacity) trace.now))) }
+        (asking words.now.circuit.now words.now.partition.now words.now.capacity) words.now.trace.now))) }
     ensures shelf { ShelfWentOn S.Shelf shelf.old shelf.new }
 {
-    let case = read_case(alloc, shelf, circuit, partition, models, saves, capacity)?;
-    let inputs = read_inputs(alloc, shelf, trace, &case.design, &case.cut.request)?;
+    let case = read_case(
+        alloc,
+        shelf,
+        words.circuit,
+        words.partition,
+        models,
+        saves,
+        words.capacity,
+    )?;
+    let inputs = read_inputs(alloc, shelf, words.trace, &case.design, &case.cut.request)?;
     // for the invariant only: the limit on rows
     let _ = inputs.rows();
     Ok(Fed {

@@ -6,6 +6,7 @@
 //! - Read: `read_case` reads a circuit and a partition and returns the design with its cut, a [`Case`]; `read_fed` reads a trace too and
 //!   returns a [`Fed`]. Both load one file after another, and return what is reported for the first one that is refused. `models_of` gives
 //!   the models of the bridges that are handed in.
+//! - Worked with: [`Tools`] are what a command works with, apart from its files, its output and the bridges.
 //! - Reference: `reference_of` makes the circuit with a register for each pipe. `shown_ports` are the outputs that no bridge sees.
 //! - Printed: `print_run` prints a run by the simulator, and `print_fed` from the network of the cut. `replay_net` does steps on that
 //!   network and prints the tokens of each channel. `print_plan` prints the machines and the channels of a cut.
@@ -24,12 +25,13 @@ mod ports;
 mod printing;
 mod reading;
 mod snaps;
+mod tools;
 mod whole;
 mod windows;
 mod words;
 
 pub use bridges::{Bridges, HandFault, MOST_SIGNALS};
-pub use case::{Case, Fed, read_case, read_fed};
+pub use case::{Case, Fed, FedWords, read_case, read_fed};
 pub use checking::print_plan;
 pub use handed::models_of;
 pub use naming::names_of;
@@ -39,6 +41,7 @@ pub use ports::shown_ports;
 pub use printing::print_run;
 pub use reading::inputs_of;
 pub use snaps::{end_at_snap, end_few};
+pub use tools::Tools;
 pub use whole::reference_of;
 pub use windows::print_fed;
 pub use words::end_at_words;

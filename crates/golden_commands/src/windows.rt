@@ -13,28 +13,24 @@ ghost use Rattle.golden_commands.specs.inside.Replayed.{IsToReplay};
 
 use crate::case::Fed;
 use crate::ports::shown_ports;
+use crate::tools::Tools;
 use gg_bits::Name;
 use gg_bridge::Bridge;
-use gg_cut_plan::Models;
 use gg_flat::Ports;
 use gg_io::{Ending, Gate, Sink};
 use gg_net::Streams;
 use gg_rows::print_net;
-use std::alloc::Global;
 use std::marker::Brand;
 use std::thread::Threads;
 
 // Prints the run of a design on a trace, from the network of the plan. Its channels carry the values of a flow.
 fn print_flow<R: Threads + Sync, B: Bridge + Send + Drop, Z: Streams, K: Sink, G: Gate + Sync>(
-    rt: &R,
-    alloc: Global,
+    tools: &Tools<'_, R, G>,
     fed: &Fed,
-    _models: &Models,
     ports: &Ports,
     bridges: Vec<(Name, B)>,
     workers: u32,
     out: &mut K,
-    gate: &G,
 ) -> Result<(), Ending>
     requires few { workers ≤ 64 }
     requires run { (replay : IsToReplay fed.now Z.flow) × (length ports.now ≤ length (plan_circuit replay.run.design replay.run.request replay.run.models).outs) }
@@ -47,8 +43,8 @@ fn print_flow<R: Threads + Sync, B: Bridge + Send + Drop, Z: Streams, K: Sink, G
 {
     let case = &fed.case;
     print_net::<R, B, Z, K, G>(
-        rt,
-        alloc,
+        tools.rt,
+        tools.alloc,
         &case.design,
         &case.cut.plan,
         &fed.trace,
@@ -56,7 +52,7 @@ fn print_flow<R: Threads + Sync, B: Bridge + Send + Drop, Z: Streams, K: Sink, G
         workers,
         bridges,
         out,
-        gate,
+        tools.gate,
     )
 }
 
@@ -67,21 +63,18 @@ fn print_flow<R: Threads + Sync, B: Bridge + Send + Drop, Z: Streams, K: Sink, G
 ///
 /// Returns `Unwritten` if a put fails, and `NoMemory` if an allocation fails.
 pub fn print_fed<R: Threads + Sync, B: Bridge + Send + Drop, K: Sink, G: Gate + Sync>(
-    rt: &R,
-    alloc: Global,
+    tools: &Tools<'_, R, G>,
     fed: &Fed,
-    models: &Models,
     bridges: Vec<(Name, B)>,
     workers: u32,
     out: &mut K,
-    gate: &G,
 ) -> Result<(), Ending>
-    requires fed { (circuit : List ℕ) × (partition : List ℕ) × (trace : List ℕ) × (capacity : ℕ) × IsFed (to_run models.now) circuit partition trace capacity fed.now }
+    requires fed { (circuit : List ℕ) × (partition : List ℕ) × (trace : List ℕ) × (capacity : ℕ) × IsFed (to_run tools.now.models.now) circuit partition trace capacity fed.now }
     requires bridges { HasBridges B.piece B.state fed.now.case.cut.plan bridges.items }
     requires few { workers ≤ 64 }
-    ensures prints { PrintsFedByNetwork models.now K.Sink out.old out.new fed.now result }
+    ensures prints { PrintsFedByNetwork tools.now.models.now K.Sink out.old out.new fed.now result }
     ensures out { SinkWentOn K.Sink out.old out.new }
 {
-    let ports = shown_ports(alloc, &fed.case.design, &fed.case.cut.request)?;
-    print_flow::<R, B, Brand, K, G>(rt, alloc, fed, models, &ports, bridges, workers, out, gate)
+    let ports = shown_ports(tools.alloc, &fed.case.design, &fed.case.cut.request)?;
+    print_flow::<R, B, Brand, K, G>(tools, fed, &ports, bridges, workers, out)
 }

@@ -18,8 +18,8 @@ print_since-requires-clause-run g c κs within =
     let r = c.requires.fed in
     let fed = c.args.fed.now in (
       _,
-      resumed-can c.args.models.now r.0 r.1 r.2 r.3 fed r.4 c.args.snap.cycle c.args.snap.state c.requires.within c.requires.typed,
-      fed-ports (to_save c.args.models.now) r.0 r.1 r.2 r.3 fed r.4 c.in_ok-ports.ports c.in_ok-ports.ensures,
+      resumed-can c.args.tools.now.models.now r.0 r.1 r.2 r.3 fed r.4 c.args.snap.cycle c.args.snap.state c.requires.within c.requires.typed,
+      fed-ports (to_save c.args.tools.now.models.now) r.0 r.1 r.2 r.3 fed r.4 c.in_ok-ports.ports c.in_ok-ports.ensures,
     )
 
 pub returns-clause-prints : goal.returns-clause-prints
@@ -27,7 +27,7 @@ returns-clause-prints g c =
     let r = c.requires.fed in
     let fed = c.args.fed.now in
     let snap = c.args.snap in
-    let models = c.args.models.now in
+    let models = c.args.tools.now.models.now in
     subst (λ (text : List ℕ). PrintsOn g.K.Sink c.args.out.now c.print_since.new.out text c.print_since.result)
     (resumed-text models r.0 r.1 r.2 r.3 fed r.4 snap.cycle snap.state c.requires.within c.requires.typed c.in_ok-ports.ports c.in_ok-ports.ensures)
     (c.print_since.ensures.prints _ (resumed-can models r.0 r.1 r.2 r.3 fed r.4 snap.cycle snap.state c.requires.within c.requires.typed))

@@ -11,7 +11,7 @@ use Rattle.golden.proofs.RestLemmas.{resumed-so, snap-tells}
 use Rattle.golden.proofs.resume.resume_bytes.Goals as goal
 
 pub reference_of-requires : goal.reference_of-requires
-reference_of-requires g c = let r = c.requires.fed in (to_save c.args.models.now, r.0, r.1, r.3, r.4.case)
+reference_of-requires g c = let r = c.requires.fed in (to_save c.args.tools.now.models.now, r.0, r.1, r.3, r.4.case)
 
 pub returns-in_err-reference-clause-ended : goal.returns-in_err-reference-clause-ended
 returns-in_err-reference-clause-ended g c = λ circuit partition trace capacity is. Wants (exit-is c.from_residual.ensures.1) refl
@@ -24,7 +24,7 @@ pub returns-in_err-snap-clause-ended : goal.returns-in_err-snap-clause-ended
 returns-in_err-snap-clause-ended g c = λ circuit partition trace capacity is.
     Stops c.in_err-snap.field-0.0 (exit-is c.from_residual-in_err-snap.ensures.1)
     (IfRefused-map
-    (snap-tells c.args.models.now circuit partition trace capacity c.args.fed.now is c.in_ok-reference.reference c.rows.result c.args.bytes.items c.in_ok-reference.ensures.circuit c.in_ok-reference.ensures.tree c.rows.ensures.count)
+    (snap-tells c.args.tools.now.models.now circuit partition trace capacity c.args.fed.now is c.in_ok-reference.reference c.rows.result c.args.bytes.items c.in_ok-reference.ensures.circuit c.in_ok-reference.ensures.tree c.rows.ensures.count)
     c.in_err-snap.field-0.0 c.in_err-snap.ensures.refused)
     refl
 
@@ -50,5 +50,5 @@ returns-clause-ended g c = λ circuit partition trace capacity is.
     let known = of-made (λ f t. AreKnown f (rows_of f t)) circuit-is tree-is c.in_ok-snap.ensures.known in
     let within : snap.cycle ≤ fed.trace.rows = omega (arith, c.in_ok-snap.ensures.within, c.rows.ensures.count) in
     PrintsText _
-    (resumed-so c.args.models.now circuit partition trace capacity fed is snap.cycle snap.state within reads.typed c.args.bytes.items reads known (designs-agree d.flat d.tree) c.one_snapshot.ensures.once c.plans_are_whole.ensures)
+    (resumed-so c.args.tools.now.models.now circuit partition trace capacity fed is snap.cycle snap.state within reads.typed c.args.bytes.items reads known (designs-agree d.flat d.tree) c.one_snapshot.ensures.once c.plans_are_whole.ensures)
     c.print_rest.ensures.prints

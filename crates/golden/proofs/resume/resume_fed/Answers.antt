@@ -13,5 +13,5 @@ returns-in_err-bytes-clause-ended g c = λ circuit partition trace capacity is.
 
 pub returns-clause-ended : goal.returns-clause-ended
 returns-clause-ended g c = λ circuit partition trace capacity is.
-    judged-ends {file = snap_file_for (to_save c.args.models.now) circuit partition trace c.args.snap.now} {IsText = IsResumedText (to_save c.args.models.now) circuit partition trace} (record { held = c.in_ok-bytes.ensures.held; within = c.in_ok-bytes.ensures.within })
+    judged-ends {file = snap_file_for (to_save c.args.tools.now.models.now) circuit partition trace c.args.snap.now} {IsText = IsResumedText (to_save c.args.tools.now.models.now) circuit partition trace} (record { held = c.in_ok-bytes.ensures.held; within = c.in_ok-bytes.ensures.within })
     (c.resume_bytes.ensures.ended circuit partition trace capacity is)

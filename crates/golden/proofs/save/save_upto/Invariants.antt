@@ -3,4 +3,4 @@ use Rattle.golden.proofs.save.save_upto.Given as goal
 
 -- what the plan's network computes on the first rows
 abbrev pub ghosts-text_upto : goal.ghosts-text_upto
-ghosts-text_upto g a = record { flow = fed_flow a._models.now a.fed.now }
+ghosts-text_upto g a = record { flow = fed_flow a.tools.now.models.now a.fed.now }

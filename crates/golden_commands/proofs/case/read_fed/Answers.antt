@@ -11,14 +11,14 @@ use Rattle.golden_commands.proofs.case.read_fed.Goals as goal
 
 pub returns-in_err-case-clause-refused : goal.returns-in_err-case-clause-refused
 returns-in_err-case-clause-refused g c =
-    rw (exit-is c.from_residual.ensures.1) (IfRefused-map (λ said. case-stops (loads_of g.S.Shelf c.args.shelf.now c.read_case.new.shelf) (asking c.args.circuit.now c.args.partition.now c.args.capacity) (λ b p. Load (trace_file_for b p c.args.trace.now) (λ t. Write (λ text. Unit {0})))) c.in_err-case.field-0.0 c.in_err-case.ensures.refused)
+    rw (exit-is c.from_residual.ensures.1) (IfRefused-map (λ said. case-stops (loads_of g.S.Shelf c.args.shelf.now c.read_case.new.shelf) (asking c.args.words.now.circuit.now c.args.words.now.partition.now c.args.words.now.capacity) (λ b p. Load (trace_file_for b p c.args.words.now.trace.now) (λ t. Write (λ text. Unit {0})))) c.in_err-case.field-0.0 c.in_err-case.ensures.refused)
 
 pub returns-in_err-inputs-clause-refused : goal.returns-in_err-inputs-clause-refused
 returns-in_err-inputs-clause-refused g c =
     let read = c.in_ok-case.ensures.read in
     rw (exit-is c.from_residual-in_err-inputs.ensures.1)
     (IfRefused-map
-    (λ said h. case-later (loads-on c.read_inputs.new.shelf c.read_case.ensures.shelf) (λ b p. Load (trace_file_for b p c.args.trace.now) (λ t. Write (λ text. Unit {0}))) read (inl (trace-refused (loads_of g.S.Shelf c.read_case.new.shelf c.read_inputs.new.shelf) read.is.means.means read.is.cuts.asks said h)))
+    (λ said h. case-later (loads-on c.read_inputs.new.shelf c.read_case.ensures.shelf) (λ b p. Load (trace_file_for b p c.args.words.now.trace.now) (λ t. Write (λ text. Unit {0}))) read (inl (trace-refused (loads_of g.S.Shelf c.read_case.new.shelf c.read_inputs.new.shelf) read.is.means.means read.is.cuts.asks said h)))
     c.in_err-inputs.field-0.0 c.in_err-inputs.ensures.refused)
 
 pub returns-clause-read : goal.returns-clause-read
