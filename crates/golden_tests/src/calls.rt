@@ -1,5 +1,5 @@
 //! Calls with files and sinks in memory, and their answers.
-ghost use Rattle.std.specs.Prelude.{◌≡◌, [], ◌∷◌, codes, length, IfOk};
+ghost use Rattle.std.specs.Prelude.{◌≡◌, ◌≤◌, [], ◌∷◌, codes, length, IfOk};
 ghost use Rattle.gg_flat.specs.State.{opening};
 
 use crate::texts::lines_in;
@@ -95,31 +95,16 @@ pub(crate) fn words_of(alloc: Global, line: &str) -> Result<Vec<String>, AllocEr
     Ok(words)
 }
 
-// Five echoes.
-#[derive(Drop)]
-struct Echoes {
-    one: Echo,
-    eight: Echo,
-    other: Echo,
-    many: Echo,
-    most: Echo,
-}
-
-// Five echoes in the state of zeros.
-fn make_echoes(alloc: Global) -> Result<Echoes, AllocError>
-    ensures one { IfOk result (λ made. made.one.last ≡ 0) }
-    ensures eight { IfOk result (λ made. made.eight.last ≡ 0) }
-    ensures other { IfOk result (λ made. made.other.last ≡ 0) }
-    ensures many { IfOk result (λ made. made.many.last ≡ 0) }
-    ensures most { IfOk result (λ made. made.most.last ≡ 0) }
+// An echo of this width, in the state of zeros.
+fn boxed_echo(alloc: Global, width: u32) -> Result<Box<dyn Bridge + Send + Drop>, AllocError>
+    requires low { 1 ≤ width }
+    requires high { width ≤ 128 }
+    ensures zeros { IfOk result (λ bridge. state bridge ≡ opening (piece bridge)) }
+    ensures few { IfOk result (λ bridge. length (piece bridge).signals ≡ 2) }
 {
-    Ok(Echoes {
-        one: Echo::new(alloc, 1)?,
-        eight: Echo::new(alloc, 8)?,
-        other: Echo::new(alloc, 8)?,
-        many: Echo::new(alloc, 32)?,
-        most: Echo::new(alloc, 64)?,
-    })
+    let echo = Echo::new(alloc, width)?;
+    let bridge: Box<dyn Bridge + Send + Drop> = Box::new(alloc, echo)?;
+    Ok(bridge)
 }
 
 // These bridges, each with its name.
@@ -181,18 +166,11 @@ pub(crate) fn call_on<R: Threads + Sync, S: Shelf, K: Sink, E: Sink>(
     out: &mut K,
     err: &mut E,
 ) -> Result<u8, AllocError> {
-    let Echoes {
-        one,
-        eight,
-        other,
-        many,
-        most,
-    } = make_echoes(alloc)?;
-    let one: Box<dyn Bridge + Send + Drop> = Box::new(alloc, one)?;
-    let eight: Box<dyn Bridge + Send + Drop> = Box::new(alloc, eight)?;
-    let other: Box<dyn Bridge + Send + Drop> = Box::new(alloc, other)?;
-    let many: Box<dyn Bridge + Send + Drop> = Box::new(alloc, many)?;
-    let most: Box<dyn Bridge + Send + Drop> = Box::new(alloc, most)?;
+    let one = boxed_echo(alloc, 1)?;
+    let eight = boxed_echo(alloc, 8)?;
+    let other = boxed_echo(alloc, 8)?;
+    let many = boxed_echo(alloc, 32)?;
+    let most = boxed_echo(alloc, 64)?;
     call_with(
         rt, alloc, words, shelf, out, err, one, eight, other, many, most,
     )

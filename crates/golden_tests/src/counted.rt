@@ -7,7 +7,7 @@ use crate::texts::named_text;
 use gg_bits::Name;
 use gg_bridge::{Bridge, Echo};
 use gg_flat::Piece;
-use gg_io::{MemShelf, MemSink, NoGate, Shelf, Sink};
+use gg_io::{MemFiles, MemShelf, MemSink, NoGate, Shelf, Sink};
 use golden::golden_with;
 use std::alloc::{AllocError, Global};
 use std::sync::Arc;
@@ -16,11 +16,23 @@ use std::test::Fail;
 use std::thread::Threads;
 
 // An echo that counts how often it says a value, and how often it answers one.
-#[derive(Drop)]
 struct Counted {
     echo: Echo,
     said: Arc<AtomicU64>,
     answered: Arc<AtomicU64>,
+}
+
+impl Drop for Counted {
+    fn drop(self) {
+        let Self {
+            echo,
+            said,
+            answered,
+        } = self;
+        drop(echo);
+        drop(said);
+        drop(answered);
+    }
 }
 
 impl Bridge for Counted {
@@ -93,21 +105,26 @@ impl Counts {
 }
 
 // A bridge that counts here. It is an echo of 8 bits in the state of zeros.
-fn make_counted(
+fn boxed_counted(
     alloc: Global,
     said: &Arc<AtomicU64>,
     answered: &Arc<AtomicU64>,
-) -> Result<Counted, AllocError>
-    ensures { IfOk result (λ counted. counted.echo.last ≡ 0) }
+) -> Result<Box<dyn Bridge + Send + Drop>, AllocError>
+    ensures zeros { IfOk result (λ bridge. state bridge ≡ opening (piece bridge)) }
+    ensures few { IfOk result (λ bridge. length (piece bridge).signals ≡ 2) }
 {
     let said = Arc::try_clone(said)?;
     let answered = Arc::try_clone(answered)?;
     let echo = Echo::new(alloc, 8)?;
-    Ok(Counted {
-        echo,
-        said,
-        answered,
-    })
+    let bridge: Box<dyn Bridge + Send + Drop> = Box::new(
+        alloc,
+        Counted {
+            echo,
+            said,
+            answered,
+        },
+    )?;
+    Ok(bridge)
 }
 
 // A list of these bridges, with their names.
@@ -154,11 +171,35 @@ fn call_on<R: Threads + Sync, S: Shelf, K: Sink, E: Sink>(
     err: &mut E,
     counts: &Counts,
 ) -> Result<u8, AllocError> {
-    let first = make_counted(alloc, &counts.said, &counts.answered)?;
-    let first: Box<dyn Bridge + Send + Drop> = Box::new(alloc, first)?;
-    let other = make_counted(alloc, &counts.other_said, &counts.other_answered)?;
-    let other: Box<dyn Bridge + Send + Drop> = Box::new(alloc, other)?;
+    let first = boxed_counted(alloc, &counts.said, &counts.answered)?;
+    let other = boxed_counted(alloc, &counts.other_said, &counts.other_answered)?;
     call_with(rt, alloc, words, shelf, out, err, first, other)
+}
+
+// The files of a run of five rows with this partition.
+fn files_with(alloc: Global, partition: &str) -> Result<MemFiles, AllocError> {
+    let circuit = named_text(alloc, "two")?;
+    files_of(
+        alloc,
+        circuit.as_slice(),
+        partition,
+        "cycle\n0\n1\n2\n3\n4\n",
+    )
+}
+
+// A run with these words and these files. Two of its bridges count here. Returns whether it has its five rows.
+fn has_five_rows<R: Threads + Sync>(
+    rt: &R,
+    alloc: Global,
+    words: &[String],
+    files: MemFiles,
+    counts: &Counts,
+) -> Result<bool, AllocError> {
+    let mut shelf = MemShelf::new(files, Vec::new(alloc));
+    let mut out = MemSink::new(alloc, Vec::new(alloc));
+    let mut err = MemSink::new(alloc, Vec::new(alloc));
+    let status = call_on(rt, alloc, words, &mut shelf, &mut out, &mut err, counts)?;
+    Ok(status == 0 && out.bytes.as_slice() == "cycle p\n0 00\n1 00\n2 00\n3 ff\n4 fd\n".as_bytes())
 }
 
 // A run of five rows with this partition and these options. Two of its bridges count here. Returns whether it has its rows.
@@ -169,28 +210,10 @@ fn has_rows<R: Threads + Sync>(
     options: &str,
     counts: &Counts,
 ) -> Result<bool, AllocError> {
+    let files = files_with(alloc, partition)?;
     let line = format!(in alloc; "golden run k1.fir p.json k1.trace{options}")?;
     let words = words_of(alloc, line.as_str())?;
-    let circuit = named_text(alloc, "two")?;
-    let files = files_of(
-        alloc,
-        circuit.as_slice(),
-        partition,
-        "cycle\n0\n1\n2\n3\n4\n",
-    )?;
-    let mut shelf = MemShelf::new(files, Vec::new(alloc));
-    let mut out = MemSink::new(alloc, Vec::new(alloc));
-    let mut err = MemSink::new(alloc, Vec::new(alloc));
-    let status = call_on(
-        rt,
-        alloc,
-        words.as_slice(),
-        &mut shelf,
-        &mut out,
-        &mut err,
-        counts,
-    )?;
-    Ok(status == 0 && out.bytes.as_slice() == "cycle p\n0 00\n1 00\n2 00\n3 ff\n4 fd\n".as_bytes())
+    has_five_rows(rt, alloc, words.as_slice(), files, counts)
 }
 
 // A bridge that the partition lists says a value before the first row, and after each row it answers and says the next. With `--mono` its model

@@ -133,9 +133,11 @@ fn status_told<R: Threads + Sync>(
     row: &Row<'_>,
     room: usize,
 ) -> Result<Option<u8>, AllocError> {
-    let mut out = StreamSink::new(Narrow::new(alloc, 0));
+    let mut out = Narrow::new(alloc, 0);
     let mut err = Narrow::new(alloc, room);
-    let status = status_on(rt, alloc, row, &mut out, &mut err)?;
+    let mut sink = StreamSink::new(&mut out);
+    let status = status_on(rt, alloc, row, &mut sink, &mut err)?;
+    drop(sink);
     Ok(if err.holds_front(row.err.as_slice()) {
         Some(status)
     } else {
@@ -162,6 +164,33 @@ enum Turn {
     Err,
 }
 
+// Whether a call ends as it has to where something fails in turn.
+fn ends_in_turn<R: Threads + Sync>(
+    rt: &R,
+    alloc: Global,
+    row: &Row<'_>,
+    turn: &Turn,
+) -> Result<bool, AllocError> {
+    match turn {
+        Turn::Load => are_unloaded(rt, alloc, row),
+        Turn::Out => are_stopped(rt, alloc, row),
+        Turn::Memory => are_without_memory(rt, alloc, row),
+        Turn::Err => are_told(rt, alloc, row),
+    }
+}
+
+// Whether a paragraph is a call, and it ends so.
+fn is_right<R: Threads + Sync>(
+    rt: &R,
+    alloc: Global,
+    paragraph: &str,
+    turn: &Turn,
+) -> Result<bool, AllocError> {
+    let mut row = Row::new(alloc);
+    let is_read = row.take_all(alloc, paragraph)? && row.finish(alloc)?;
+    Ok(is_read && ends_in_turn(rt, alloc, &row, turn)?)
+}
+
 // Checks that each call of a text ends as it has to where something fails in turn.
 fn check_turns<R: Threads + Sync>(
     rt: &R,
@@ -170,15 +199,7 @@ fn check_turns<R: Threads + Sync>(
     turn: &Turn,
 ) -> Result<(), Fail> {
     for paragraph in text.split("\n\n") {
-        let mut row = Row::new(alloc);
-        let is_read = row.take_all(alloc, paragraph)? && row.finish(alloc)?;
-        let is_right = match turn {
-            Turn::Load => are_unloaded(rt, alloc, &row)?,
-            Turn::Out => are_stopped(rt, alloc, &row)?,
-            Turn::Memory => are_without_memory(rt, alloc, &row)?,
-            Turn::Err => are_told(rt, alloc, &row)?,
-        };
-        if !is_read || !is_right {
+        if !is_right(rt, alloc, paragraph, turn)? {
             return Err(Fail::new(format_args!("{paragraph}")));
         }
     }

@@ -8,6 +8,7 @@
 //!   keeps values.
 //! - `failures`, `outputs`: calls with each load and each put failing in turn.
 //! - `counted`: how often a bridge is called;
+//! - `passes`: which windows of a run have workers;
 //! - `workers`: two workers that meet.
 #![tactic(auto)]
 
@@ -23,6 +24,8 @@ mod failures;
 mod large;
 #[cfg(test)]
 mod outputs;
+#[cfg(test)]
+mod passes;
 #[cfg(test)]
 mod row;
 #[cfg(test)]

@@ -10,10 +10,16 @@ use std::io::{self, Write};
 use std::thread::Threads;
 
 // A stream that takes `room` bytes, and then fails.
-#[derive(Drop)]
 pub(crate) struct Narrow {
     bytes: Vec<u8>,
     room: usize,
+}
+
+impl Drop for Narrow {
+    fn drop(self) {
+        let Self { bytes, room: _ } = self;
+        drop(bytes);
+    }
 }
 
 impl Narrow {
@@ -53,11 +59,21 @@ impl Write for Narrow {
 }
 
 // A sink that has memory for `room` puts. Its contract says nothing of what was written, and the test looks at it.
-#[derive(Drop)]
 pub(crate) struct Full {
     bytes: Vec<u8>,
     room: u64,
     refused: u64,
+}
+
+impl Drop for Full {
+    fn drop(self) {
+        let Self {
+            bytes,
+            room: _,
+            refused: _,
+        } = self;
+        drop(bytes);
+    }
 }
 
 impl Full {

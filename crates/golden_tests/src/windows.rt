@@ -27,7 +27,7 @@ fn circuit_of(alloc: Global, stop: u64) -> Result<String, AllocError> {
 
 // A header and the rows of the cycles not below `first` and below `end`. They end in turn with one text and with the other. If the clock is slow,
 // three in a row end alike.
-fn rows_of(
+pub(crate) fn rows_of(
     alloc: Global,
     header: &str,
     first: u64,

@@ -43,13 +43,25 @@ impl Gate for Meeting {
 
 // A sink that looks at its second put, the first row, whether two workers have met. Its contract says nothing of what was written, and the test looks
 // at it.
-#[derive(Drop)]
 struct WatchingSink<'a> {
     gate: &'a Meeting,
     bytes: Vec<u8>,
     puts: u64,
     met: bool,
     refused: u64,
+}
+
+impl Drop for WatchingSink<'_> {
+    fn drop(self) {
+        let Self {
+            gate: _,
+            bytes,
+            puts: _,
+            met: _,
+            refused: _,
+        } = self;
+        drop(bytes);
+    }
 }
 
 impl<'a> Sink for WatchingSink<'a> {

@@ -1,0 +1,2 @@
+-- The definitions that clauses of the program name.
+pub mod inside

@@ -1,0 +1,2 @@
+-- Definitions that no promise of another crate speaks of.
+pub mod Echoes
