@@ -68,7 +68,7 @@ module _ {B : Type 0} (piece : B → FlatCircuit) (state : B → State) where
       (sym (is ∙ ap (λ x. (x, a) ∷ (l, b) ∷ (m, c) ∷ (n, d) ∷ []) ek ∙ ap (λ x. (codes "echo1", a) ∷ (x, b) ∷ (m, c) ∷ (n, d) ∷ []) el ∙ ap (λ x. (codes "echo1", a) ∷ (codes "echo8", b) ∷ (x, c) ∷ (n, d) ∷ []) em ∙ ap (λ x. (codes "echo1", a) ∷ (codes "echo8", b) ∷ (codes "echo32", c) ∷ (x, d) ∷ []) en))
       (can-four a b c d p q r s e f g h)
 
-  -- the models of a list that is made so
-  pub are-four : (items : List (List ℕ × B)) (a b c d : B) → items ≡ (codes "echo1", a) ∷ (codes "echo8", b) ∷ (codes "echo32", c) ∷ (codes "echo64", d) ∷ []
-      → models_in piece items ≡ (codes "echo1", piece a) ∷ (codes "echo8", piece b) ∷ (codes "echo32", piece c) ∷ (codes "echo64", piece d) ∷ []
-  are-four items a b c d is = ap (models_in piece) is
+-- the models of a list that is made so
+pub are-four : {B : Type 0} → (piece : B → FlatCircuit) → (items : List (List ℕ × B)) (a b c d : B) → items ≡ (codes "echo1", a) ∷ (codes "echo8", b) ∷ (codes "echo32", c) ∷ (codes "echo64", d) ∷ []
+    → models_in piece items ≡ (codes "echo1", piece a) ∷ (codes "echo8", piece b) ∷ (codes "echo32", piece c) ∷ (codes "echo64", piece d) ∷ []
+are-four piece items a b c d is = ap (models_in piece) is

@@ -4,6 +4,7 @@
 
 ghost use Rattle.std.specs.Prelude.{◌≡◌, ◌≤◌, [], ◌∷◌, codes, IfOk};
 ghost use Rattle.gg_flat.specs.State.{opening};
+ghost use Rattle.gg_bridge.specs.inside.Echo.{echo_piece, echo_state};
 ghost use Rattle.golden_commands.specs.Bridges.{CanHandIn, models_in};
 ghost use Rattle.golden_run.specs.inside.Echoes.{AreEchoes, IsEchoOf};
 
@@ -32,6 +33,15 @@ fn words(rt: &HostRuntime, alloc: Global) -> io::Result<Vec<String>> {
     Ok(words)
 }
 
+// This echo as a bridge.
+fn boxed(alloc: Global, echo: Echo) -> Result<Box<dyn Bridge + Send + Drop>, AllocError>
+    ensures piece { IfOk result (λ bridge. piece bridge ≡ echo_piece echo.ty) }
+    ensures state { IfOk result (λ bridge. state bridge ≡ echo_state echo.last) }
+{
+    let bridge: Box<dyn Bridge + Send + Drop> = Box::new(alloc, echo)?;
+    Ok(bridge)
+}
+
 // An echo of unsigned values of this width, in the state of zeros.
 fn boxed_echo(alloc: Global, width: u32) -> Result<Box<dyn Bridge + Send + Drop>, AllocError>
     requires low { 1 ≤ width }
@@ -40,7 +50,7 @@ fn boxed_echo(alloc: Global, width: u32) -> Result<Box<dyn Bridge + Send + Drop>
     ensures zeros { IfOk result (λ bridge. state bridge ≡ opening (piece bridge)) }
 {
     let echo = Echo::new(alloc, width)?;
-    let bridge: Box<dyn Bridge + Send + Drop> = Box::new(alloc, echo)?;
+    let bridge = boxed(alloc, echo)?;
     Ok(bridge)
 }
 

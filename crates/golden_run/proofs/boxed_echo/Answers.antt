@@ -1,4 +1,3 @@
-use Rattle.std.proofs.Common.{rules}
 use Rattle.golden_run.proofs.boxed_echo.Goals as goal
 
 pub returns-clause-echo : goal.returns-clause-echo
@@ -6,5 +5,5 @@ returns-clause-echo g c = record {
   ty = c.in_ok-echo.echo.ty;
   kind = c.in_ok-echo.ensures.kind;
   wide = c.in_ok-echo.ensures.width;
-  is = search rules;
+  is = c.in_ok-bridge.ensures.piece;
 }
