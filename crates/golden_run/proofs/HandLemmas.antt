@@ -7,12 +7,7 @@ use Rattle.gg_flat.specs.Circuit.{FlatCircuit}
 use Rattle.gg_flat.specs.State.{State, opening}
 use Rattle.gg_bits.proofs.PathLemmas.{missing-path}
 use Rattle.golden_commands.specs.Handed.{IsBridgeName, most_signals}
-use Rattle.golden_commands.specs.Bridges.{CanHandIn, models_in}
-use Rattle.golden_run.specs.inside.Echoes.{IsEchoOf}
-
--- an echo's circuit has two signals
-pub two-signals : {width : ℕ} {circuit : FlatCircuit} → IsEchoOf width circuit → length circuit.signals ≡ 2
-two-signals is = ap (λ (c : FlatCircuit). length c.signals) is.is
+use Rattle.golden_commands.specs.Bridges.{CanHandIn}
 
 module _ {B : Type 0} (piece : B → FlatCircuit) (state : B → State) where
   pub can-none : CanHandIn {B = B} piece state []
@@ -67,8 +62,3 @@ module _ {B : Type 0} (piece : B → FlatCircuit) (state : B → State) where
       subst (CanHandIn piece state)
       (sym (is ∙ ap (λ x. (x, a) ∷ (l, b) ∷ (m, c) ∷ (n, d) ∷ []) ek ∙ ap (λ x. (codes "echo1", a) ∷ (x, b) ∷ (m, c) ∷ (n, d) ∷ []) el ∙ ap (λ x. (codes "echo1", a) ∷ (codes "echo8", b) ∷ (x, c) ∷ (n, d) ∷ []) em ∙ ap (λ x. (codes "echo1", a) ∷ (codes "echo8", b) ∷ (codes "echo32", c) ∷ (x, d) ∷ []) en))
       (can-four a b c d p q r s e f g h)
-
--- the models of a list that is made so
-pub are-four : {B : Type 0} → (piece : B → FlatCircuit) → (items : List (List ℕ × B)) (a b c d : B) → items ≡ (codes "echo1", a) ∷ (codes "echo8", b) ∷ (codes "echo32", c) ∷ (codes "echo64", d) ∷ []
-    → models_in piece items ≡ (codes "echo1", piece a) ∷ (codes "echo8", piece b) ∷ (codes "echo32", piece c) ∷ (codes "echo64", piece d) ∷ []
-are-four piece items a b c d is = ap (models_in piece) is

@@ -2,11 +2,9 @@
 //! the status that `golden_with` returns. The echoes `echo1`, `echo8`, `echo32` and `echo64` have as many bits.
 #![tactic(auto)]
 
-ghost use Rattle.std.specs.Prelude.{◌≡◌, ◌≤◌, [], ◌∷◌, codes, IfOk};
+ghost use Rattle.std.specs.Prelude.{◌≡◌, [], ◌∷◌, codes, length, IfOk};
+ghost use Rattle.gg_bits.specs.declared.types.Kind.TheVariants.{UInt};
 ghost use Rattle.gg_flat.specs.State.{opening};
-ghost use Rattle.gg_bridge.specs.inside.Echo.{echo_piece, echo_state};
-ghost use Rattle.golden_commands.specs.Bridges.{CanHandIn, models_in};
-ghost use Rattle.golden_run.specs.inside.Echoes.{AreEchoes, IsEchoOf};
 
 use gg_bits::Name;
 use gg_bridge::{Bridge, Echo};
@@ -33,25 +31,36 @@ fn words(rt: &HostRuntime, alloc: Global) -> io::Result<Vec<String>> {
     Ok(words)
 }
 
-// This echo as a bridge.
-fn boxed(alloc: Global, echo: Echo) -> Result<Box<dyn Bridge + Send + Drop>, AllocError>
-    ensures piece { IfOk result (λ bridge. piece bridge ≡ echo_piece echo.ty) }
-    ensures state { IfOk result (λ bridge. state bridge ≡ echo_state echo.last) }
-{
-    let bridge: Box<dyn Bridge + Send + Drop> = Box::new(alloc, echo)?;
-    Ok(bridge)
+// Four echoes.
+#[derive(Drop)]
+struct Echoes {
+    one: Echo,
+    eight: Echo,
+    many: Echo,
+    most: Echo,
 }
 
-// An echo of unsigned values of this width, in the state of zeros.
-fn boxed_echo(alloc: Global, width: u32) -> Result<Box<dyn Bridge + Send + Drop>, AllocError>
-    requires low { 1 ≤ width }
-    requires high { width ≤ 128 }
-    ensures echo { IfOk result (λ bridge. IsEchoOf width (piece bridge)) }
-    ensures zeros { IfOk result (λ bridge. state bridge ≡ opening (piece bridge)) }
+// Four echoes in the state of zeros: of unsigned values of 1, 8, 32 and 64 bits.
+fn make_echoes(alloc: Global) -> Result<Echoes, AllocError>
+    ensures one { IfOk result (λ made. made.one.last ≡ 0) }
+    ensures eight { IfOk result (λ made. made.eight.last ≡ 0) }
+    ensures many { IfOk result (λ made. made.many.last ≡ 0) }
+    ensures most { IfOk result (λ made. made.most.last ≡ 0) }
+    ensures width1 { IfOk result (λ made. made.one.ty.width ≡ 1) }
+    ensures width8 { IfOk result (λ made. made.eight.ty.width ≡ 8) }
+    ensures width32 { IfOk result (λ made. made.many.ty.width ≡ 32) }
+    ensures width64 { IfOk result (λ made. made.most.ty.width ≡ 64) }
+    ensures kind1 { IfOk result (λ made. made.one.ty.kind ≡ UInt) }
+    ensures kind8 { IfOk result (λ made. made.eight.ty.kind ≡ UInt) }
+    ensures kind32 { IfOk result (λ made. made.many.ty.kind ≡ UInt) }
+    ensures kind64 { IfOk result (λ made. made.most.ty.kind ≡ UInt) }
 {
-    let echo = Echo::new(alloc, width)?;
-    let bridge = boxed(alloc, echo)?;
-    Ok(bridge)
+    Ok(Echoes {
+        one: Echo::new(alloc, 1)?,
+        eight: Echo::new(alloc, 8)?,
+        many: Echo::new(alloc, 32)?,
+        most: Echo::new(alloc, 64)?,
+    })
 }
 
 // These bridges, each with its name.
@@ -72,17 +81,30 @@ fn named(
     Ok(bridges)
 }
 
-// The program's own bridges: four echoes. The number in a name is the echo's width.
-fn make_echoes(alloc: Global) -> Result<Vec<(Name, Box<dyn Bridge + Send + Drop>)>, AllocError>
-    ensures can { IfOk result (λ bridges. CanHandIn piece state bridges.items) }
-    ensures echoes { IfOk result (λ bridges. AreEchoes (models_in piece bridges.items)) }
+// Calls `golden_with` with these words and these bridges, each in the state of zeros. Returns its status.
+fn call_with<R: Threads + Sync, S: Shelf, K: Sink, E: Sink>(
+    rt: &R,
+    alloc: Global,
+    words: &[String],
+    shelf: &mut S,
+    out: &mut K,
+    err: &mut E,
+    one: Box<dyn Bridge + Send + Drop>,
+    eight: Box<dyn Bridge + Send + Drop>,
+    many: Box<dyn Bridge + Send + Drop>,
+    most: Box<dyn Bridge + Send + Drop>,
+) -> Result<u8, AllocError>
+    requires one { state one ≡ opening (piece one) }
+    requires eight { state eight ≡ opening (piece eight) }
+    requires many { state many ≡ opening (piece many) }
+    requires most { state most ≡ opening (piece most) }
+    requires few1 { length (piece one).signals ≡ 2 }
+    requires few2 { length (piece eight).signals ≡ 2 }
+    requires few3 { length (piece many).signals ≡ 2 }
+    requires few4 { length (piece most).signals ≡ 2 }
 {
-    let one = boxed_echo(alloc, 1)?;
-    let eight = boxed_echo(alloc, 8)?;
-    let many = boxed_echo(alloc, 32)?;
-    let most = boxed_echo(alloc, 64)?;
     let bridges = named(alloc, one, eight, many, most)?;
-    Ok(bridges)
+    Ok(golden_with(rt, alloc, words, shelf, out, err, &NoGate, bridges))
 }
 
 // Calls `golden_with` with these words and the echoes. Returns its status.
@@ -94,8 +116,17 @@ fn call<R: Threads + Sync, S: Shelf, K: Sink, E: Sink>(
     out: &mut K,
     err: &mut E,
 ) -> Result<u8, AllocError> {
-    let bridges = make_echoes(alloc)?;
-    Ok(golden_with(rt, alloc, words, shelf, out, err, &NoGate, bridges))
+    let Echoes {
+        one,
+        eight,
+        many,
+        most,
+    } = make_echoes(alloc)?;
+    let one: Box<dyn Bridge + Send + Drop> = Box::new(alloc, one)?;
+    let eight: Box<dyn Bridge + Send + Drop> = Box::new(alloc, eight)?;
+    let many: Box<dyn Bridge + Send + Drop> = Box::new(alloc, many)?;
+    let most: Box<dyn Bridge + Send + Drop> = Box::new(alloc, most)?;
+    call_with(rt, alloc, words, shelf, out, err, one, eight, many, most)
 }
 
 // The status for want of memory before the call, after its line.

@@ -1,2 +1,0 @@
--- The definitions that clauses of the program name.
-pub mod inside

@@ -1,2 +1,0 @@
--- Definitions that no promise of another crate speaks of.
-pub mod Echoes
