@@ -1,12 +1,17 @@
 -- Code: what is added at the end changes nothing before it, and what a stretch gives.
-use Rattle.std.proofs.Common.{◌≡◌, ℕ, ◌<◌, ◌≤◌, ◌+◌, ◌-◌, List, [], ◌++◌, length, take, drop, inl, inr, sym, ◌∙◌, ap, ap₂, subst, arith}
+use Rattle.std.proofs.Common.{◌≡◌, ℕ, ◌<◌, ◌≤◌, ◌+◌, ◌-◌, ◌^◌, List, [], ◌++◌, length, take, drop, inl, inr, sym, ◌∙◌, ap, ap₂, subst, arith}
+use Rattle.std.proofs.Math.Nat.{mod-eq_of_lt}
+use Rattle.std.proofs.Math.Pow.{pow_mono}
 use Rattle.std.proofs.lemmas.Bool.Decides.{leb_tells}
-use Rattle.std.proofs.lemmas.List.{append-nil, append_assoc, length-append, length-drop, take-append-le, drop-append-le, take_all, drop_all}
-use Rattle.gg_bits.specs.Shape.{Shape}
+use Rattle.std.proofs.lemmas.List.{append-nil, length-append, length-drop, take-append-le, drop-append-le, take_all, drop_all}
+use Rattle.gg_bits.specs.Shape.{Shape, Fits}
+use Rattle.gg_bits.specs.Value.{pattern_of, number_of}
+use Rattle.gg_bits.specs.Meaning.{extended}
+use Rattle.gg_bits.specs.declared.types.Kind.TheVariants.{UInt}
 use Rattle.gg_flat.specs.declared.line.Op.{Op}
 use Rattle.gg_flat.specs.declared.line.Op.TheVariants.{Ref, Literal, One, Two, Fix, Mux}
 use Rattle.gg_flat.specs.declared.line.Node.{Node}
-use Rattle.gg_flat.specs.Line.{shape_at, shapes_of, op_at, HasShape, HasType, IsLine, IsSource, line_shape}
+use Rattle.gg_flat.specs.Line.{shape_at, shapes_of, op_at, HasShape, HasType, IsLine, IsSource, line_shape, line_value, connected_value}
 use Rattle.gg_flat.specs.inside.Line.{HasValue}
 use Rattle.gg_tape.specs.declared.instruction.Instruction.{Instruction}
 use Rattle.gg_tape.specs.declared.code.Stretch.{Stretch}
@@ -26,15 +31,6 @@ Grows-none code =
       further = [];
       instructions_are = sym (append-nil code.instructions.items);
       literals_are = sym (append-nil code.literals.items);
-    }
-
-pub Grows-join : (a b c : Code) → Grows a b → Grows b c → Grows a c
-Grows-join a b c one two =
-    record {
-      more = one.more ++ two.more;
-      further = one.further ++ two.further;
-      instructions_are = two.instructions_are ∙ ap (λ xs. xs ++ two.more) one.instructions_are ∙ append_assoc a.instructions.items one.more two.more;
-      literals_are = two.literals_are ∙ ap (λ xs. xs ++ two.further) one.literals_are ∙ append_assoc a.literals.items one.further two.further;
     }
 
 pub Grows-added : (line : List Node) (n : ℕ) (old new : Code) → IsAdded line n old.instructions.items old.literals.items new.instructions.items new.literals.items → Grows old new
@@ -103,6 +99,28 @@ connects-tells code stretch cells line can = record { tells = can.tells; line_is
 pub for-can : (code : Code) (sink : Shape) (stretch : Stretch) (cells : Celled) (line : List Node) → TellsFor (length cells.values) code sink stretch line → IsSource (HasValue cells.values) sink line → length line ≤ cells.room → CanConnect code stretch cells line
 for-can code sink stretch cells line is source room =
     record { tells = is.tells; source = subst (λ (s : Shape). IsSource (HasValue cells.values) s line) (sym is.sink_is) source; room = room }
+
+-- a natural number is its own extension
+pub natural-same : (s : Shape) (w v : ℕ) → s.kind ≡ UInt → s.width ≤ w → Fits s v → v ≡ extended s w v
+natural-same s w v is longer fits =
+    let whole : 2 ^ s.width ≤ 2 ^ w = pow_mono longer in
+    let small : v < 2 ^ w = omega (arith, fits, whole) in
+    sym (ap (λ k. pattern_of w (number_of k s.width v)) is ∙ mod-eq_of_lt small)
+
+-- The value of a line of kind `UInt` is what its sink gets.
+pub record IsConnected (values : List ℕ) (sink : Shape) (line : List Node) (value : ℕ) : Type 0 where
+  pub value_is : value ≡ connected_value values sink line
+  pub fits : Fits sink value
+
+pub natural-connects : (code : Code) (stretch : Stretch) (cells : Celled) (line : List Node) (value : ℕ) → CanConnect code stretch cells line → stretch.own.kind ≡ UInt → value ≡ line_value cells.values line → Fits (small stretch.own) value → IsConnected cells.values (small stretch.sink) line value
+natural-connects code stretch cells line value can natural is fits =
+    let own : small stretch.own ≡ line_shape line = can.tells.own in
+    let wide : stretch.own.width ≤ stretch.sink.width = subst (λ (s : Shape). s.width ≤ stretch.sink.width) (sym own) can.source.width in
+    let whole : 2 ^ stretch.own.width ≤ 2 ^ stretch.sink.width = pow_mono wide in
+    record {
+      value_is = natural-same (small stretch.own) stretch.sink.width value natural wide fits ∙ ap₂ (λ (s : Shape) (v : ℕ). extended s stretch.sink.width v) own is;
+      fits = omega (arith, fits, whole);
+    }
 
 -- ---- a line's nodes name earlier ones
 

@@ -1,14 +1,16 @@
 -- Tapes: what is added at the end changes nothing before it, and what a signal's origin gives.
-use Rattle.std.proofs.Common.{◌≡◌, ℕ, ◌<◌, ◌≤◌, ◌+◌, List, [], ◌∷◌, ◌++◌, length, set, map, get_or, refl, sym, ◌∙◌, ap, subst, arith, below_more}
+use Rattle.std.proofs.Common.{◌≡◌, ℕ, ◌<◌, ◌≤◌, ◌+◌, List, [], ◌∷◌, ◌++◌, length, set, get_or, refl, sym, ◌∙◌, ap, subst, arith, below_more, ◌-◌}
 use Rattle.std.specs.Prelude.{All}
 use Rattle.std.proofs.lemmas.List.{length-append, length-map, get_or-map, get_or_at, get_or_append_left}
-use Rattle.std.proofs.lemmas.List.Elements.{All-push}
 use Rattle.gg_bits.specs.Shape.{Shape, Fits}
 use Rattle.gg_flat.specs.declared.piece.Signal.{Signal}
 use Rattle.gg_flat.specs.declared.piece.Driver.{Driver}
 use Rattle.gg_flat.specs.declared.piece.Driver.TheVariants.{Input, Held, MemoryWord, ReadRegister, Computed}
+use Rattle.gg_bits.specs.Meaning.{extended}
 use Rattle.gg_flat.specs.declared.line.Node.{Node}
-use Rattle.gg_flat.specs.Line.{shape_at, value_at, connected_value}
+use Rattle.gg_flat.specs.declared.line.Op.TheVariants.{Ref}
+use Rattle.gg_flat.specs.inside.Line.{HasValue}
+use Rattle.gg_flat.specs.Line.{shape_at, value_at, connected_value, HasShape, IsSource, shapes_of, op_at, op_value, line_shape, line_value}
 use Rattle.gg_flat.specs.Memory.{read_word, bank_at}
 use Rattle.gg_flat.specs.Circuit.{FlatCircuit, signal_shapes, driver_at}
 use Rattle.gg_flat.specs.State.{State}
@@ -19,13 +21,13 @@ use Rattle.gg_order.specs.runs.Room.{HasRoom, line_length}
 use Rattle.gg_tape.specs.declared.code.Stretch.{Stretch}
 use Rattle.gg_tape.specs.declared.code.Code.{Code}
 use Rattle.gg_tape.specs.declared.taped.Origin.{Origin}
-use Rattle.gg_tape.specs.declared.taped.Origin.TheVariants.{FromInput, FromRegister, FromMemory, FromReader, FromLine}
+use Rattle.gg_tape.specs.declared.taped.Origin.TheVariants.{FromInput, FromRegister, FromMemory, FromReader, FromSignal, FromLine}
 use Rattle.gg_tape.specs.declared.taped.TapedSignal.{TapedSignal}
 use Rattle.gg_tape.specs.declared.tape.Tape.{Tape}
 use Rattle.gg_tape.specs.inside.Instruction.{small}
 use Rattle.gg_tape.specs.inside.Cells.{Celled}
-use Rattle.gg_tape.specs.inside.Tape.{signals_of, Grows, IsOrigin, IsTapedSignal, TellsFor, AreNumbers, CanConnect}
-use Rattle.gg_tape.proofs.CodeLemmas.{for-more, for-can}
+use Rattle.gg_tape.specs.inside.Tape.{signals_of, Grows, IsOrigin, IsTapedSignal, IsTape, TellsFor, AreNumbers, CanConnect, IsReference}
+use Rattle.gg_tape.proofs.CodeLemmas.{for-more, for-can, natural-same}
 
 -- ---- more code
 
@@ -34,6 +36,7 @@ origin-more n old new sink (FromInput place) driver grows is = is
 origin-more n old new sink (FromRegister register) driver grows is = is
 origin-more n old new sink (FromMemory memory addr en) driver grows is = is
 origin-more n old new sink (FromReader memory reader) driver grows is = is
+origin-more n old new sink (FromSignal s) driver grows is = is
 origin-more n old new sink (FromLine stretch) driver grows is = (is.0, is.1, for-more n old new sink stretch is.0 grows is.2)
 
 pub signals-more : (circuit : FlatCircuit) (old new : Code) (signals : List TapedSignal) → Grows old new → All (IsTapedSignal circuit old) signals → All (IsTapedSignal circuit new) signals
@@ -104,6 +107,26 @@ reader-gives state inputs signals n code sink driver origin memory reader from h
       gives = value-as state inputs signals sink driver (ReadRegister memory reader) (value_at (bank_at state.banks memory).reads reader) is refl has;
     }
 
+-- the value of a reference that is the only node
+lone-value : (signals : List ℕ) (line : List Node) (s : ℕ) → length line ≡ 1 → op_at line 0 ≡ Ref s → line_value signals line ≡ value_at signals s
+lone-value signals [] s one op = absurd (omega (arith, one))
+lone-value signals (node ∷ []) s one op = ap (op_value signals (shapes_of (node ∷ [])) []) op
+lone-value signals (node ∷ next ∷ more) s one op = absurd (omega (arith, one))
+
+pub signal-gives : (state : State) (inputs signals : List ℕ) (n : ℕ) (code : Code) (sink : Shape) (driver : Driver) (origin : Origin) (s : ℕ) → IsOrigin n code sink origin driver → HasSource state inputs signals sink driver → origin ≡ FromSignal s → (s < length signals) × IsValue state inputs signals sink driver (value_at signals s)
+signal-gives state inputs signals n code sink driver origin s from has at =
+    let is = as-origin n code sink driver origin (FromSignal s) at from in
+    let line : List Node = is.0 in
+    let lone : IsReference s line = is.2 in
+    let source : IsSource (HasValue signals) sink line = subst (HasSource state inputs signals sink) is.1 has in
+    let shape_is : line_shape line ≡ shape_at (shapes_of line) 0 = ap (λ k. shape_at (shapes_of line) (k - 1)) lone.alone in
+    let known : HasValue signals s (shape_at (shapes_of line) 0) = subst (HasShape (HasValue signals) (shapes_of line) 0 (shape_at (shapes_of line) 0)) lone.op (source.line.typed 0 source.line.some) in
+    let fits : Fits (line_shape line) (value_at signals s) = subst (λ (t : Shape). Fits t (value_at signals s)) (sym shape_is) known.1 in
+    let gives : value_at signals s ≡ connected_value signals sink line =
+    natural-same (line_shape line) sink.width (value_at signals s) lone.natural source.width fits
+    ∙ ap (extended (line_shape line) sink.width) (sym (lone-value signals line s lone.alone lone.op)) in
+    (known.0, value-as state inputs signals sink driver (Computed line) (value_at signals s) is.1 gives has)
+
 -- What the instructions of a line require, and that its value is the driver's.
 pub record GivesLine (state : State) (inputs : List ℕ) (cells : Celled) (code : Code) (sink : Shape) (driver : Driver) (stretch : Stretch) : Type 0 where
   pub line : List Node
@@ -137,6 +160,15 @@ room-at circuit places s room lt =
 
 pub signals-count : (tape : Tape) → length (signals_of tape) ≡ length tape.signals.items
 signals-count tape = length-map tape.signals.items (λ (taped : TapedSignal). taped.signal)
+
+-- the origin of the signal at a place
+pub taped-at : (circuit : FlatCircuit) (tape : Tape) (place : ℕ) (taped : TapedSignal) → IsTape circuit tape → place < length (signals_of tape) → taped ≡ get_or tape.signals.items place taped → IsOrigin (length circuit.signals) tape.code (shape_at (signal_shapes circuit) (value_at (signals_of tape) place)) taped.origin (driver_at circuit (value_at (signals_of tape) place))
+taped-at circuit tape place taped is lt read =
+    let all = tape.signals.items in
+    let within : place < length all = omega (arith, lt, signals-count tape) in
+    let named : value_at (signals_of tape) place ≡ taped.signal = get_or-map (λ (x : TapedSignal). x.signal) all place taped 0 within ∙ ap (λ (x : TapedSignal). x.signal) (sym read) in
+    let one : IsTapedSignal circuit tape.code taped = subst (λ (x : TapedSignal). IsTapedSignal circuit tape.code x) (sym read) (is.signals place taped within) in
+    subst (λ (s : ℕ). IsOrigin (length circuit.signals) tape.code (shape_at (signal_shapes circuit) s) taped.origin (driver_at circuit s)) (sym named) one.origin
 
 -- the cells with another value of a signal
 abbrev pub with-value : Celled → ℕ → ℕ → Celled

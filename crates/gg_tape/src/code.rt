@@ -11,7 +11,7 @@ use crate::cells::Cells;
 use crate::instruction::Instruction;
 use crate::small::Small;
 use crate::tell::tell;
-use gg_bits::{Ty, Val, extend};
+use gg_bits::{Kind, Ty, Val, extend};
 use gg_flat::Line;
 use std::alloc::{AllocError, Global};
 
@@ -117,7 +117,11 @@ impl Code {
         ensures same { cells.new ≡ cells.old }
     {
         let value = self.value(stretch, cells);
-        extend(Val(value), stretch.own.ty(), u32::from(stretch.sink.width)).0
+        match stretch.own.kind {
+            // a natural number is its own extension
+            Kind::UInt => value,
+            Kind::SInt => extend(Val(value), stretch.own.ty(), u32::from(stretch.sink.width)).0,
+        }
     }
 }
 

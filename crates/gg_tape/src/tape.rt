@@ -1,5 +1,5 @@
 //! `Tape`: the lines of a circuit, in an order of its signals.
-ghost use Rattle.std.specs.Prelude.{◌≡◌, ℕ, ◌<◌, ◌≤◌, ◌^◌, [], ◌∷◌, ◌++◌, length, IfOk, OnOk};
+ghost use Rattle.std.specs.Prelude.{◌≡◌, ℕ, ◌<◌, ◌≤◌, ◌^◌, [], ◌∷◌, ◌++◌, length, IfOk, IfSome, OnOk};
 ghost use Rattle.gg_bits.specs.Shape.{shape, Fits};
 ghost use Rattle.gg_flat.specs.Line.{shape_at, value_at, AreTyped};
 ghost use Rattle.gg_flat.specs.Circuit.{signal_shapes, register_shapes, driver_at};
@@ -9,13 +9,13 @@ ghost use Rattle.gg_flat.specs.Order.{IsOrder};
 ghost use Rattle.gg_flat.specs.inside.Settled.{HasSource};
 ghost use Rattle.gg_flat.specs.Settled.{Settled, IsInputs, driver_value as driver_value_of};
 ghost use Rattle.gg_order.specs.runs.Room.{HasRoom, line_length};
-ghost use Rattle.gg_tape.specs.inside.Tape.{signals_of, AreTapedSignals, IsOrigin, IsTape, IsWhole, Grows};
+ghost use Rattle.gg_tape.specs.inside.Tape.{signals_of, AreTapedSignals, IsReference, IsOrigin, IsTape, IsWhole, Grows};
 
 use crate::cells::Cells;
 use crate::code::Code;
 use crate::taped::{Origin, TapedRegister, TapedSignal};
-use gg_bits::Ty;
-use gg_flat::{Driver, Piece};
+use gg_bits::{Kind, Ty};
+use gg_flat::{Driver, Node, Op, Piece, op_of, type_of};
 use gg_order::State;
 use std::alloc::{AllocError, Global};
 
@@ -139,6 +139,7 @@ impl Tape {
     {
         match &self.signals[place].origin {
             Origin::FromLine(stretch) => self.code.connected(stretch, cells),
+            Origin::FromSignal(signal) => cells.value(*signal),
             Origin::FromInput(place) => inputs[*place as usize],
             Origin::FromRegister(register) => state.registers()[*register as usize],
             Origin::FromMemory(memory, addr, en) => {
@@ -230,9 +231,25 @@ fn origin_of(
         Driver::Held(register) => Ok(Origin::FromRegister(*register)),
         Driver::MemoryWord(memory, _, addr, en) => Ok(Origin::FromMemory(*memory, *addr, *en)),
         Driver::ReadRegister(memory, reader) => Ok(Origin::FromReader(*memory, *reader)),
-        Driver::Computed(line) => {
-            let stretch = code.tell(piece.signal_count(), line, sink)?;
-            Ok(Origin::FromLine(stretch))
-        }
+        Driver::Computed(line) => match lone_signal(line.as_slice()) {
+            Some(signal) => Ok(Origin::FromSignal(signal)),
+            None => {
+                let stretch = code.tell(piece.signal_count(), line, sink)?;
+                Ok(Origin::FromLine(stretch))
+            }
+        },
+    }
+}
+
+// The signal that a line refers to, if it is nothing but a reference of kind `UInt`.
+fn lone_signal(nodes: &[Node]) -> Option<u32>
+    ensures { IfSome result (λ signal. IsReference signal nodes.now) }
+{
+    if nodes.len() != 1 || type_of(nodes, 0).kind == Kind::SInt {
+        return None;
+    }
+    match op_of(nodes, 0) {
+        Op::Ref(signal) => Some(*signal),
+        _ => None,
     }
 }

@@ -12,6 +12,8 @@ pub(crate) enum Origin {
     FromMemory(u32, u32, u32),
     // The read register of the reader with the second number, of the memory with the first.
     FromReader(u32, u32),
+    // The signal with this number: its line is a reference to it, of kind `UInt`.
+    FromSignal(u32),
     // The line that these instructions compute.
     FromLine(Stretch),
 }

@@ -2,18 +2,20 @@
 use Rattle.std.specs.Prelude.{◌≡◌, ℕ, ◌-◌, ◌<◌, ◌≤◌, List, ◌++◌, Option, Some, None, length, map, take, drop, get_or, All}
 use Rattle.gg_bits.specs.Shape.{Shape, shape}
 use Rattle.gg_flat.specs.declared.line.Node.{Node}
+use Rattle.gg_bits.specs.declared.types.Kind.TheVariants.{UInt}
+use Rattle.gg_flat.specs.declared.line.Op.TheVariants.{Ref}
 use Rattle.gg_flat.specs.declared.piece.Driver.{Driver}
 use Rattle.gg_flat.specs.declared.piece.Driver.TheVariants.{Input, Held, MemoryWord, ReadRegister, Computed}
 use Rattle.gg_flat.specs.declared.piece.Register.{Register}
 use Rattle.gg_flat.specs.declared.piece.Reset.{Reset}
-use Rattle.gg_flat.specs.Line.{shape_at, value_at, line_shape, IsLine, IsSource}
+use Rattle.gg_flat.specs.Line.{shape_at, value_at, op_at, line_shape, IsLine, IsSource}
 use Rattle.gg_flat.specs.inside.Line.{HasValue}
 use Rattle.gg_flat.specs.Circuit.{FlatCircuit, signal_shapes, driver_at}
 use Rattle.gg_tape.specs.declared.instruction.Instruction.{Instruction}
 use Rattle.gg_tape.specs.declared.code.Stretch.{Stretch}
 use Rattle.gg_tape.specs.declared.code.Code.{Code}
 use Rattle.gg_tape.specs.declared.taped.Origin.{Origin}
-use Rattle.gg_tape.specs.declared.taped.Origin.TheVariants.{FromInput, FromRegister, FromMemory, FromReader, FromLine}
+use Rattle.gg_tape.specs.declared.taped.Origin.TheVariants.{FromInput, FromRegister, FromMemory, FromReader, FromSignal, FromLine}
 use Rattle.gg_tape.specs.declared.taped.TapedSignal.{TapedSignal}
 use Rattle.gg_tape.specs.declared.taped.TapedReset.{TapedReset}
 use Rattle.gg_tape.specs.declared.taped.TapedRegister.{TapedRegister}
@@ -48,12 +50,19 @@ pub record Grows (old new : Code) : Type 0 where
 
 -- ---- signals
 
+-- a line is nothing but a reference to signal s, of kind `UInt`
+pub record IsReference (s : ℕ) (line : List Node) : Type 0 where
+  pub alone : length line ≡ 1
+  pub op : op_at line 0 ≡ Ref s
+  pub natural : (line_shape line).kind ≡ UInt
+
 -- the value of a driver for a sink of this shape comes from there
 abbrev pub IsOrigin : ℕ → Code → Shape → Origin → Driver → Type 0
 IsOrigin n code sink (FromInput place) driver = driver ≡ Input place
 IsOrigin n code sink (FromRegister register) driver = driver ≡ Held register
 IsOrigin n code sink (FromMemory memory addr en) driver = (reader : ℕ) × (driver ≡ MemoryWord memory reader addr en)
 IsOrigin n code sink (FromReader memory reader) driver = driver ≡ ReadRegister memory reader
+IsOrigin n code sink (FromSignal s) driver = (line : List Node) × (driver ≡ Computed line) × IsReference s line
 IsOrigin n code sink (FromLine stretch) driver = (line : List Node) × (driver ≡ Computed line) × TellsFor n code sink stretch line
 
 -- a signal of a tape is one of the circuit's, with its driver

@@ -1,12 +1,11 @@
-use Rattle.std.proofs.Common.{◌≡◌, ◌≤◌, ◌<◌, ℕ, [], length, refl, sym, subst, arith}
+use Rattle.std.proofs.Common.{◌≡◌, ◌≤◌, ℕ, [], refl, sym, subst, arith}
 use Rattle.gg_bits.specs.Shape.{Fits}
 use Rattle.gg_flat.specs.Circuit.{signal_shapes, driver_at}
-use Rattle.gg_flat.specs.Line.{shape_at, value_at}
+use Rattle.gg_flat.specs.Line.{shape_at}
 use Rattle.gg_flat.specs.inside.Settled.{HasSource}
 use Rattle.gg_flat.specs.Settled.{driver_value}
 use Rattle.gg_flat.proofs.TypedLemmas.{HasSource-from}
 use Rattle.gg_order.specs.runs.Room.{line_length}
-use Rattle.gg_tape.specs.inside.Tape.{signals_of}
 use Rattle.gg_tape.proofs.TapeLemmas.{room-at}
 use Rattle.gg_program.specs.Slots.{inputs_in}
 use Rattle.gg_program.proofs.EvaluateLemmas.{values-count}

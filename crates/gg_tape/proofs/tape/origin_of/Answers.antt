@@ -12,3 +12,6 @@ returns-in-MemoryWord-clause-grown c = Grows-none c.args.code.now
 
 pub returns-in-ReadRegister-clause-grown : goal.returns-in-ReadRegister-clause-grown
 returns-in-ReadRegister-clause-grown c = Grows-none c.args.code.now
+
+pub returns-in-Some-clause-grown : goal.returns-in-Some-clause-grown
+returns-in-Some-clause-grown c = Grows-none c.args.code.now

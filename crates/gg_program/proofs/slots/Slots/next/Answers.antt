@@ -1,4 +1,4 @@
-use Rattle.std.proofs.Common.{◌+◌, arith}
+use Rattle.std.proofs.Common.{arith}
 use Rattle.gg_program.proofs.UnsetLemmas.{unset-none}
 use Rattle.gg_program.proofs.slots.Slots.next.Goals as goal
 

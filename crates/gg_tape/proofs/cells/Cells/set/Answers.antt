@@ -1,4 +1,4 @@
-use Rattle.std.proofs.Common.{◌<◌, List, ℕ, ◌-◌, length, take, set, sym, ap, ap₂, subst, arith}
+use Rattle.std.proofs.Common.{◌<◌, ◌-◌, length, take, sym, ap, subst, arith}
 use Rattle.std.proofs.lemmas.List.{length-set, length-take-le}
 use Rattle.gg_tape.specs.inside.Cells.{Celled}
 use Rattle.gg_tape.proofs.CellsLemmas.{Celled-same, take-set-below}

@@ -1,5 +1,4 @@
-use Rattle.std.proofs.Common.{◌≡◌, ◌+◌, ◌∙◌, [], ℕ, List, length, map, sym, ap, subst, arith}
-use Rattle.gg_tape.specs.declared.taped.TapedRegister.{TapedRegister}
+use Rattle.std.proofs.Common.{◌≡◌, ◌+◌, ◌∙◌, ℕ, List, length, map, sym, ap, subst, arith}
 use Rattle.gg_tape.specs.declared.taped.TapedSignal.{TapedSignal}
 use Rattle.gg_tape.specs.inside.Tape.{signals_of, AreNumbers}
 use Rattle.gg_tape.proofs.TapeLemmas.{AreNumbers-more}
