@@ -7,23 +7,19 @@ use Rattle.gg_flat.specs.Run.{Start}
 use Rattle.gg_flat.specs.State.{State, opening}
 use Rattle.gg_flat.specs.Streams.{Flow}
 use Rattle.gg_bits.specs.Limits.{cycle_limit}
-use Rattle.gg_order.specs.Design.{Ordered}
-use Rattle.gg_partfile.specs.declared.request.Request.{Request}
 use Rattle.gg_part.specs.PartRun.{part_ratios, part_start, part_state}
 use Rattle.gg_part.specs.declared.part.Part.{Part}
 use Rattle.gg_cut_plan.specs.declared.plan.Body.{Body}
 use Rattle.gg_cut_plan.specs.declared.plan.Body.TheVariants.{Cut, Memory, Source, Tray, Bridge}
 use Rattle.gg_cut_plan.specs.declared.plan.Plan.{Plan}
-use Rattle.gg_cut_plan.specs.Bridges.{Models}
-use Rattle.gg_cut_plan.specs.Direct.{Hub, plan_hub}
-use Rattle.gg_cut_plan.specs.Listed.{listed_of}
-use Rattle.gg_cut_plan.specs.declared.listed.Listed.{Listed}
-use Rattle.gg_cut_plan.specs.Plan.{IsBody, IsCutPart, IsPlan}
+use Rattle.gg_cut_plan.specs.Plan.{IsCutPart}
 use Rattle.gg_cut_reference.specs.Follows.{plan_token}
 use Rattle.gg_cut_reference.specs.Made.{plan_reference}
 use Rattle.gg_cut_reference.proofs.StartLemmas.{part-start, start-token}
 use Rattle.gg_node.specs.Machine.{Machine, machine_at, no_state}
-use Rattle.gg_build.specs.plan.Built.{AreBuilt, IsBuilt, body_start, machine_in, nameless}
+use Rattle.gg_build.specs.plan.Built.{AreBuilt, IsBuilt, body_start, machine_in}
+use Rattle.gg_build.specs.inside.Given.{Given, IsBodyAt, cut_of}
+use Rattle.gg_build.proofs.PlanLemmas.GivenLemmas.{body-at}
 use Rattle.gg_build.specs.declared.begin.Begin.{Begin}
 use Rattle.gg_build.specs.inside.Begin.{part_begin, starts_of, state_from}
 use Rattle.gg_build.specs.Build.{IsToRunFrom}
@@ -31,12 +27,9 @@ use Rattle.gg_build.specs.inside.Build.{Begins, FromZeros, IsToBegin, IsToRun}
 
 -- ---- the machines
 
-module _ (design : Ordered) (request : Request) (models : Models) (default : ℕ) (plan : Plan) (planned : IsPlan design request models default plan) (start : Start) (begin : Begin) (begins : Begins design request plan start begin) where
-  abbrev listed : Listed
-  listed = listed_of design.tree request
-
-  abbrev hub : Hub
-  hub = plan_hub design.circuit design.tree request
+module _ (given : Given) (begin : Begin) (begins : Begins given.design given.request given.plan given.start begin) where
+  open given use {design, request, plan, columns, start}
+  open cut_of design request use {listed, hub}
 
   -- a part has its part of the state that is told, or of zeros
   state-begins : (m : ℕ) (part : Part) → IsCutPart design listed hub m part → (told : Option State) → start.state ≡ unwrap_or told (opening (plan_reference design request)) → state_from part told ≡ part_state part.held part.memories start.state
@@ -48,7 +41,7 @@ module _ (design : Ordered) (request : Request) (models : Models) (default : ℕ
       ap₂ (λ (cycle : ℕ) (state : State). record { cycle = cycle; state = state; ratios = part_ratios part.clocks plan.ratios }) begins.cycle (state-begins m part cut begin.state begins.state)
       ∙ ap (λ (ratios : List Ratio). record { cycle = start.cycle; state = part_state part.held part.memories start.state; ratios = part_ratios part.clocks ratios }) begins.ratios
 
-  body-begins : (m : ℕ) (body : Body) → IsBody design request models listed hub m body → starts_of plan.ratios begin body ≡ body_start start body
+  body-begins : (m : ℕ) (body : Body) → IsBodyAt given m body → starts_of plan.ratios begin body ≡ body_start start body
   body-begins m (Cut part) is = part-begins m part is.1
   body-begins m (Memory part) is = part-begins m part is.2
   body-begins m (Source place) is = ap (λ (cycle : ℕ). record { cycle = cycle; state = no_state; ratios = [] }) begins.cycle
@@ -56,11 +49,11 @@ module _ (design : Ordered) (request : Request) (models : Models) (default : ℕ
   body-begins m (Bridge bridge) is = ap (λ (cycle : ℕ). record { cycle = cycle; state = opening bridge.model; ratios = [] }) begins.cycle
 
   pub machine-begins : (m : ℕ) → m < length plan.machines → starts_of plan.ratios begin (machine_in plan m).body ≡ body_start start (machine_in plan m).body
-  machine-begins m lt = body-begins m (machine_in plan m).body (planned.machine m nameless lt).body
+  machine-begins m lt = body-begins m (machine_in plan m).body (body-at given m lt)
 
   -- so machines that begin where it is told begin with their parts of the start
-  pub built-there : (columns : List (List ℕ)) (machines : List Machine) → AreBuilt plan (starts_of plan.ratios begin) columns machines → AreBuilt plan (body_start start) columns machines
-  built-there columns machines built =
+  pub built-there : (machines : List Machine) → AreBuilt plan (starts_of plan.ratios begin) columns machines → AreBuilt plan (body_start start) columns machines
+  built-there machines built =
       record {
         count = built.count;
         each = λ m lt. subst (λ (own : Start). IsBuilt columns (length (machine_in plan m).outs) own (machine_in plan m).body (machine_at machines m)) (machine-begins m lt) (built.each m lt);

@@ -11,16 +11,14 @@ use Rattle.gg_net.specs.declared.shape.Wire.{Wire}
 use Rattle.gg_net.specs.declared.shape.Station.{Station}
 use Rattle.gg_net.specs.Network.{Network, Kind, kind_of, kind_at, IsAtIn, IsAtOut}
 use Rattle.gg_net.specs.inside.Stations.{stationed, machines_by}
-use Rattle.gg_net.specs.Kept.{IsSound}
 use Rattle.gg_net.specs.inside.Net.{entry_of, IsListed, Opens}
 use Rattle.gg_net.specs.Net.{opening_net}
-use Rattle.gg_cut_reference.proofs.WholeLemmas.PortLemmas.{plan-ins}
-use Rattle.gg_cut_reference.proofs.WholeLemmas.RunLemmas.{whole-runs}
-use Rattle.gg_build.specs.plan.Built.{machine_in, wires_of_plan, AreBuilt, body_start, flow_of, plan_frame}
-use Rattle.gg_build.proofs.PlanLemmas.PlanLemmas.{plan-listed, plan-wired, plan-no-ring}
+use Rattle.gg_build.specs.plan.Built.{machine_in, wires_of_plan, AreBuilt, body_start, flow_of}
+use Rattle.gg_build.specs.inside.Given.{given_of}
+use Rattle.gg_build.proofs.PlanLemmas.PlanLemmas.{plan-listed}
 use Rattle.gg_build.proofs.PlanLemmas.FitLemmas.{kind-is}
-use Rattle.gg_build.proofs.PlanLemmas.SolvedLemmas.{plan-solved}
-use Rattle.gg_build.proofs.PlanLemmas.OpeningLemmas.{built-opening}
+use Rattle.gg_build.proofs.PlanLemmas.SolvedLemmas.{plan-sound}
+use Rattle.gg_build.proofs.PlanLemmas.OpeningLemmas.{given-opening}
 use Rattle.gg_build.proofs.PlanLemmas.WithinLemmas.{plan-within}
 use Rattle.gg_build.specs.declared.node.Node.{Node}
 use Rattle.gg_build.specs.inside.Node.{machines_of}
@@ -62,12 +60,12 @@ module _ {B : Type 0} (plan : Plan) (begin : Begin) (columns : List (List ℕ)) 
 
     -- the machines begin with their parts of the start
     built : AreBuilt plan (body_start start) columns machines
-    built = built-there run.design run.request run.models run.default plan run.given.planned start begin begins columns machines are-built
+    built = built-there (given_of run.given) begin begins machines are-built
 
     is-listed : (m : ℕ) (s : Station) → m < length plan.machines → IsListed (wires_of_plan token plan) m (kind_at (map kind_of machines) m) (get_or stations m s)
     is-listed m s lt =
         let there = are.each m s lt in
-        let at = plan-listed run.design run.request run.models run.default plan columns n start run.rows token starts machines run.given are-built m lt in
+        let at = plan-listed (given_of run.given) token starts machines are-built m lt in
         let kind : kind_at (map kind_of machines) m ≡ kind_of (stationed lists_of (get_or stations m s)) = kind-is machines m (omega (arith, lt, are-built.count)) ∙ ap kind_of (machine-is m s lt) in
         record {
           ins = ap length there.ins ∙ at.ins;
@@ -78,22 +76,14 @@ module _ {B : Type 0} (plan : Plan) (begin : Begin) (columns : List (List ℕ)) 
           few = at.few;
         }
 
-    is-sound : IsSound (flow_of run.design run.request plan start run.rows) (plan_frame token plan machines n)
-    is-sound =
-        record {
-          wired = plan-wired run.design run.request run.models run.default plan columns n start run.rows token starts machines run.given are-built;
-          no_ring = plan-no-ring run.design run.request run.models run.default plan columns n start run.rows token starts machines run.given are-built;
-          solves = plan-solved run.design run.request run.models run.default plan columns n start run.rows machines run.given built (whole-runs run.design run.request run.models start columns n run.rows run.given.can run.given.typed run.given.given run.given.run) (plan-ins run.design run.request run.models run.given.can);
-        }
-
     opens-plan : Opens (flow_of run.design run.request plan start run.rows) lists_of stations (wires_of_plan token plan) n
     opens-plan =
         record {
           stationed = are.threads;
-          opening = λ m lt. built-opening run.design run.request run.models run.default plan columns n start run.rows machines run.given built m (omega (arith, lt, length-map stations (stationed lists_of)));
+          opening = λ m lt. given-opening (given_of run.given) machines built m (omega (arith, lt, length-map stations (stationed lists_of)));
           listed = λ m s lt. is-listed m s (omega (arith, lt, are.total));
-          limits = plan-within run.design run.request run.models run.default plan columns n start run.rows token starts machines run.given are-built run.room;
-          sound = is-sound;
+          limits = plan-within (given_of run.given) token starts machines are-built run.room;
+          sound = plan-sound (given_of run.given) machines built;
         }
 
     module _ (wires : List Wire) (same : (token : ℕ → ℕ) → AreTokens plan.channels token begin.tokens.items → wires ≡ wires_of_plan token plan) where

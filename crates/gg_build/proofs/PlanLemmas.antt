@@ -39,6 +39,7 @@ pub mod PlaceLemmas
 pub mod SeatLemmas
 pub mod BridgeLemmas
 pub mod RowLemmas
+pub mod RunLemmas
 pub mod BridgeDoLemmas
 pub mod SolveLemmas
 mod WorkedBridge

@@ -4,24 +4,19 @@ use Rattle.std.specs.Prelude.{Option, Some, None, min, ◌==◌}
 use Rattle.gg_flat.specs.Run.{Start}
 use Rattle.gg_flat.specs.State.{IsState}
 use Rattle.gg_flat.specs.Streams.{Flow}
-use Rattle.gg_order.specs.Design.{Ordered}
-use Rattle.gg_partfile.specs.declared.request.Request.{Request}
 use Rattle.gg_cut_plan.specs.declared.plan.Body.{Body}
 use Rattle.gg_cut_plan.specs.declared.plan.BridgeBody.{BridgeBody}
 use Rattle.gg_cut_plan.specs.declared.plan.Body.TheVariants.{Cut, Memory, Source, Tray, Bridge}
 use Rattle.gg_cut_plan.specs.declared.plan.Plan.{Plan}
-use Rattle.gg_cut_plan.specs.Bridges.{Models}
-use Rattle.gg_cut_plan.specs.Direct.{Hub, routes, plan_hub}
+use Rattle.gg_cut_plan.specs.Direct.{routes}
 use Rattle.gg_cut_plan.specs.Hosts.{machine_of, least_machine, group_of, leader_in, leader, host_of}
-use Rattle.gg_cut_plan.specs.Listed.{listed_of}
-use Rattle.gg_cut_plan.specs.Plan.{wire_at, IsBody}
+use Rattle.gg_cut_plan.specs.Plan.{wire_at}
 use Rattle.gg_cut_plan.proofs.RangeLemmas.{filter-few}
-use Rattle.gg_cut_split.proofs.ClosedLemmas.FaultlessLemmas.{faultless-few}
-use Rattle.gg_cut_reference.specs.Made.{plan_reference}
-use Rattle.gg_cut_reference.proofs.WholeLemmas.PlanLemmas.{faultless as no-fault}
-use Rattle.gg_cut_reference.proofs.WholeLemmas.PortLemmas.{plan-ins}
-use Rattle.gg_build.specs.plan.Built.{IsGiven, body_start, machine_in, nameless}
-use Rattle.gg_build.proofs.PlanLemmas.BodyLemmas.{attached-once, attached-ports, unit-formed, unit-ordered, source-known, source-some, source-few}
+use Rattle.gg_build.specs.plan.Built.{body_start, machine_in, nameless}
+use Rattle.gg_build.specs.inside.Given.{Given, IsBodyAt, cut_of, given_of}
+use Rattle.gg_build.proofs.PlanLemmas.BodyLemmas.{bridge-once, source-few, source-known, source-some, unit-formed}
+use Rattle.gg_build.proofs.PlanLemmas.BridgeLemmas.{bridge-ports}
+use Rattle.gg_build.proofs.PlanLemmas.GivenLemmas.{are-few, body-at, body-is, no-fault}
 use Rattle.gg_build.proofs.PlanLemmas.FitLemmas.{outs-count}
 use Rattle.gg_build.proofs.PlanLemmas.StandLemmas.{memory-formed, memory-chosen, memory-alone}
 use Rattle.gg_build.proofs.PlanLemmas.SeenLemmas.{seen-typed}
@@ -59,50 +54,36 @@ begin-by starts others (Source place) same can = tt
 begin-by starts others Tray same can = tt
 begin-by starts others (Bridge bridge) same can = tt
 
-module _ (design : Ordered) (request : Request) (models : Models) (default : ℕ) (plan : Plan) (columns : List (List ℕ)) (n : ℕ) (start : Start) (rows : List (List ℕ)) (given : IsGiven design request models default plan columns n start rows) where
-  abbrev hub : Hub
-  hub = plan_hub design.circuit design.tree request
+module _ (given : Given) where
+  open given use {design, request, models, plan, columns, start, can}
+  open cut_of design request use {listed, hub}
 
-  can-build : (m : ℕ) → m < length plan.machines → (body : Body) → (machine_in plan m).body ≡ body → IsBody design request models (listed_of design.tree request) hub m body → CanBuild columns (outs_at plan.machines m) body
-  can-build m lt (Cut part) is at =
-      let count = outs-count design (listed_of design.tree request) hub m part at.1 in
-      let most = faultless-few design request (no-fault design request models given.can) in
+  can-build : (m : ℕ) (body : Body) → m < length plan.machines → IsBodyAt given m body → CanBuild columns (outs_at plan.machines m) body
+  can-build m (Cut part) lt at =
+      let count = outs-count design listed hub m part at.1 in
+      let channels = (are-few given).channels in
       let few = filter-few (λ c. (wire_at (routes hub) c).producer == m) 0 (length (routes hub)) in
-      record {
-        formed = unit-formed design request models default plan columns n start rows given m lt part is;
-        ordered = unit-ordered design request models default plan columns n start rows given m lt part is;
-        few = omega (arith, count, few, most.channels);
-      }
-  can-build m lt (Memory part) is at =
-      record {
-        formed = memory-formed design request models default plan columns n start rows given m part lt is;
-        chosen = memory-chosen design request models default plan columns n start rows given m part lt is;
-        alone = λ alone cut. memory-alone design request models default plan columns n start rows given m part lt is alone cut;
-      }
-  can-build m lt (Source place) is at =
-      record {
-        known = source-known design request models default plan columns n start rows given m lt (plan-ins design request models given.can) place is;
-        some = source-some design request models default plan columns n start rows given m lt place is;
-        few = source-few design request models default plan columns n start rows given m lt place is;
-      }
-  can-build m lt Tray is at = tt
-  can-build m lt (Bridge bridge) is at = attached-ports design request models default plan columns n start rows given m lt bridge is
+      record { formed = unit-formed given m part at; ordered = at.1.ordered; few = omega (arith, count, few, channels) }
+  can-build m (Memory part) lt at = record { formed = memory-formed given m part at; chosen = memory-chosen given m part at; alone = memory-alone given m part at }
+  can-build m (Source place) lt at = record { known = source-known given m place at; some = source-some given m place lt at; few = source-few given m lt }
+  can-build m Tray lt at = tt
+  can-build m (Bridge bridge) lt at = bridge-ports given m bridge at
 
   -- a unit or a listed memory begins in its part of the start's state
-  can-begin : (m : ℕ) (body : Body) → IsState (plan_reference design request) start.state → IsBody design request models (listed_of design.tree request) hub m body → CanBegin (body_start start) body
-  can-begin m (Cut part) typed at = seen-typed design request given.can.design_is given.can.keeps given.held (no-fault design request models given.can) m part at.1 start.state typed
-  can-begin m (Memory part) typed at = seen-typed design request given.can.design_is given.can.keeps given.held (no-fault design request models given.can) m part at.2 start.state typed
-  can-begin m (Source place) typed at = tt
-  can-begin m Tray typed at = tt
-  can-begin m (Bridge bridge) typed at = tt
+  can-begin : (m : ℕ) (body : Body) → IsBodyAt given m body → CanBegin (body_start start) body
+  can-begin m (Cut part) at = seen-typed design request can.design_is can.keeps given.held (no-fault given) m part at.1 start.state given.typed
+  can-begin m (Memory part) at = seen-typed design request can.design_is can.keeps given.held (no-fault given) m part at.2 start.state given.typed
+  can-begin m (Source place) at = tt
+  can-begin m Tray at = tt
+  can-begin m (Bridge bridge) at = tt
 
   can-build-all : (starts : Body → Start) → ((m : ℕ) → m < length plan.machines → starts (machine_in plan m).body ≡ body_start start (machine_in plan m).body) → CanBuildAll starts columns plan.machines
   can-build-all starts same =
       record {
         few = given.planned.few;
         known = λ m d lt. let low = host-below request.units request.share m in omega (arith, lt, low, (given.planned.machine m d lt).host);
-        ready = λ m lt. can-build m lt (machine_in plan m).body refl (given.planned.machine m nameless lt).body;
-        begin = λ m lt. begin-by starts (body_start start) (machine_in plan m).body (same m lt) (can-begin m (machine_in plan m).body given.typed (given.planned.machine m nameless lt).body);
+        ready = λ m lt. can-build m (machine_in plan m).body lt (body-at given m lt);
+        begin = λ m lt. begin-by starts (body_start start) (machine_in plan m).body (same m lt) (can-begin m (machine_in plan m).body (body-at given m lt));
         alike = λ m k lt less other same. given.planned.shared m k nameless nameless lt less other same;
       }
 
@@ -116,18 +97,16 @@ module _ (design : Ordered) (request : Request) (models : Models) (default : ℕ
 
   have-names : HaveNames plan.machines
   have-names =
-      λ m k lt less other body is. is-other (machine_in plan m).body body.name (λ one first same. other (attached-once design request models default plan columns n start rows given m k one body lt less first is same))
+      λ m k lt less other body is. is-other (machine_in plan m).body body.name (λ one first same. other (bridge-once given m k one body (body-is given m (Bridge one) lt first) (body-is given k (Bridge body) less is) same))
 
 -- ---- the machines of a plan that is to run
 
 module _ (plan : Plan) (begin : Begin) (columns : List (List ℕ)) (n : ℕ) (flow : Flow) (is : IsToBegin plan begin columns n flow) where
   pub all-ready : CanBuildAll (starts_of plan.ratios begin) columns plan.machines
-  all-ready =
-      can-build-all is.run.design is.run.request is.run.models is.run.default plan columns n is.start is.run.rows is.run.given (starts_of plan.ratios begin)
-      (machine-begins is.run.design is.run.request is.run.models is.run.default plan is.run.given.planned is.start begin is.begins)
+  all-ready = can-build-all (given_of is.run.given) (starts_of plan.ratios begin) (machine-begins (given_of is.run.given) begin is.begins)
 
   pub all-named : HaveNames plan.machines
-  all-named = have-names is.run.design is.run.request is.run.models is.run.default plan columns n is.start is.run.rows is.run.given
+  all-named = have-names (given_of is.run.given)
 
   pub faultless : IsFaultless plan
   faultless =

@@ -10,3 +10,4 @@ pub mod Build
 pub mod Built
 pub mod CutLayout
 pub mod Each
+pub mod Given

@@ -15,12 +15,10 @@ use Rattle.gg_net.specs.Net.{opening_net}
 use Rattle.gg_net.specs.Network.{Network, entered, entered_by, frame_of, got_by, kind_of, opening_queue, queue_at, takes, wire_at}
 use Rattle.gg_net.proofs.OpenLemmas.{machine-open, queue-opens}
 use Rattle.gg_net.proofs.MarkingsLemmas.OpeningLemmas.{none-put}
-use Rattle.gg_build.specs.plan.Built.{body_start, flow_of, wires_of_plan}
-use Rattle.gg_cut_reference.proofs.WholeLemmas.PortLemmas.{plan-ins}
-use Rattle.gg_cut_reference.proofs.WholeLemmas.RunLemmas.{whole-runs}
-use Rattle.gg_build.proofs.PlanLemmas.OpeningLemmas.{built-opening}
-use Rattle.gg_build.proofs.PlanLemmas.PlanLemmas.{plan-no-ring, plan-wired}
-use Rattle.gg_build.proofs.PlanLemmas.SolvedLemmas.{plan-solved}
+use Rattle.gg_build.specs.plan.Built.{flow_of, wires_of_plan}
+use Rattle.gg_build.specs.inside.Given.{given_of}
+use Rattle.gg_build.proofs.PlanLemmas.OpeningLemmas.{given-opening}
+use Rattle.gg_build.proofs.PlanLemmas.SolvedLemmas.{plan-sound}
 use Rattle.gg_build.specs.Build.{IsOpeningFrom, IsToRunFrom, run_token}
 
 -- the queue that a channel opens with, by the token in it
@@ -68,21 +66,13 @@ module _ (flow : Flow) (machines : List Machine) (wires : List Wire) (end : ℕ)
 module _ (plan : Plan) (start : Start) (columns : List (List ℕ)) (n : ℕ) (flow : Flow) (run : IsToRunFrom plan start columns n flow) (net : Network) (opens : IsOpeningFrom plan start (run_token run) columns n net) where
   -- the machines begin with their parts of the start
   pub begins-so : (m : ℕ) → m < length opens.machines → IsOpening (flow_of run.design run.request plan start run.rows) m (machine_at opens.machines m)
-  begins-so m lt = built-opening run.design run.request run.models run.default plan columns n start run.rows opens.machines run.given opens.built m lt
+  begins-so m lt = given-opening (given_of run.given) opens.machines opens.built m lt
 
   pub opening-kept : Kept flow net
   opening-kept =
-      let given = run.given in
       let token = run_token run in
-      let starts = body_start start in
       let own = flow_of run.design run.request plan start run.rows in
       subst (Kept flow) (sym opens.is)
       (subst (λ (f : Flow). Kept f (opening_net opens.machines (wires_of_plan token plan) n)) (sym run.flow_is)
       (kept-opening own opens.machines (wires_of_plan token plan) n begins-so
-      (record {
-        wired = plan-wired run.design run.request run.models run.default plan columns n start run.rows token starts opens.machines given opens.built;
-        no_ring = plan-no-ring run.design run.request run.models run.default plan columns n start run.rows token starts opens.machines given opens.built;
-        solves = plan-solved run.design run.request run.models run.default plan columns n start run.rows opens.machines given opens.built
-            (whole-runs run.design run.request run.models start columns n run.rows given.can given.typed given.given given.run)
-            (plan-ins run.design run.request run.models given.can);
-      })))
+      (plan-sound (given_of run.given) opens.machines opens.built)))

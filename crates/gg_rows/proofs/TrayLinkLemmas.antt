@@ -16,11 +16,10 @@ use Rattle.gg_cut_reference.proofs.FittingLemmas.OpenLemmas.{outs-count}
 use Rattle.gg_cut_reference.specs.Follows.{plan_token}
 use Rattle.gg_cut_reference.specs.Links.{taken_as}
 use Rattle.gg_net.specs.Kept.{list_at}
-use Rattle.gg_cut_reference.specs.inside.Whole.{RunsWhole}
 use Rattle.gg_cut_reference.specs.whole.Whole.{plan_circuit}
 use Rattle.gg_cut_reference.proofs.WholeLemmas.PortLemmas.{plan-outs}
-use Rattle.gg_cut_reference.proofs.WholeLemmas.RunLemmas.{whole-runs}
 use Rattle.gg_build.specs.plan.Built.{IsGiven}
+use Rattle.gg_build.specs.inside.Given.{given_of}
 use Rattle.gg_build.proofs.PlanLemmas.ListedLemmas.{taken-is}
 use Rattle.gg_build.proofs.PlanLemmas.SeatLemmas.{seated-many}
 use Rattle.gg_build.proofs.PlanLemmas.SolveLemmas.{plan-output-value, plan-tray}
@@ -45,9 +44,6 @@ module _ (design : Ordered) (request : Request) (models : Models) (default : ℕ
         length-append (open_outs design.circuit (output_count design) request) (drop (output_count design) design.circuit.outs),
       )
 
-  runs : RunsWhole design request models start columns n rows
-  runs = whole-runs design request models start columns n rows given.can given.typed given.given given.run
-
   -- Channel c leads to the tray of an out-signal, and carries its values.
   pub record IsTrayLink (k c : ℕ) : Type 0 where
     pub known : c < length plan.channels
@@ -59,13 +55,13 @@ module _ (design : Ordered) (request : Request) (models : Models) (default : ℕ
       let low : k < length kept = omega (arith, lt, many) in
       let m = first_kept_tray (plan_bridges design.circuit design.tree request) + k in
       let all = plan_wires design.circuit design.tree request in
-      let tray = plan-tray design request models default plan columns n start rows given runs k low in
+      let tray = plan-tray (given_of given) k low in
       let c = tray.channel in
       let into : Contains (channels_to all m) c = subst (λ (l : List ℕ). Contains l c) (sym tray.into) (0, omega arith, refl) in (
         c,
         record {
           known = omega (arith, tray.known, seated-many (plan_bridges design.circuit design.tree request) (plan_routes design.circuit design.tree request), given.planned.channel_total);
           consumer = (taken-is all m c into).consumer;
-          value = λ t inside. plan-output-value design request models default plan columns n start rows given runs outs k c t low tray.known tray.signal inside;
+          value = λ t inside. plan-output-value (given_of given) k c t low tray.known tray.signal inside;
         },
       )

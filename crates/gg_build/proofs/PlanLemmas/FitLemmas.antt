@@ -6,29 +6,23 @@ use Rattle.std.proofs.lemmas.List.Elements.{All-nil, All-weaker}
 use Rattle.gg_flat.specs.Line.{value_at}
 use Rattle.gg_flat.specs.Run.{Start}
 use Rattle.gg_order.specs.Design.{Ordered}
-use Rattle.gg_partfile.specs.declared.request.Request.{Request}
 use Rattle.gg_part.specs.declared.part.Part.{Part}
 use Rattle.gg_cut_plan.specs.declared.listed.Listed.{Listed}
 use Rattle.gg_cut_plan.specs.declared.plan.Body.{Body}
 use Rattle.gg_cut_plan.specs.declared.plan.Body.TheVariants.{Cut, Memory, Source, Tray, Bridge}
-use Rattle.gg_cut_plan.specs.declared.plan.Plan.{Plan}
-use Rattle.gg_cut_plan.specs.Listed.{listed_of}
 use Rattle.gg_cut_plan.specs.declared.wires.Wire.{Wire as Link}
 use Rattle.gg_cut_plan.specs.Machines.{first_source, first_tray}
-use Rattle.gg_cut_plan.specs.Bridges.{Models}
-use Rattle.gg_cut_plan.specs.Direct.{Hub, routes, plan_hub}
-use Rattle.gg_cut_plan.specs.Seated.{plan_wires}
-use Rattle.gg_cut_plan.specs.Plan.{wire_at as link_at, channels_to, channels_from, IsCutPart, IsBody, IsPlan}
-use Rattle.gg_cut_routes.specs.inside.Routes.{AreRoutes}
+use Rattle.gg_cut_plan.specs.Direct.{Hub, routes}
+use Rattle.gg_cut_plan.specs.Plan.{wire_at as link_at, channels_to, channels_from, IsCutPart}
 use Rattle.gg_bridge.specs.Turned.{turned}
-use Rattle.gg_cut_reference.specs.whole.Whole.{CanBridge}
 use Rattle.gg_memunit.specs.MemoryUnit.{count_of, needs_of, ports_of}
 use Rattle.gg_node.specs.Machine.{Machine, Port, machine_at, no_machine}
 use Rattle.gg_node.specs.Step.{fields_of}
 use Rattle.gg_net.specs.Network.{Kind, kind_of, kind_at, no_kind}
 use Rattle.gg_build.specs.plan.Built.{machine_in, nameless, IsUnitOf, IsMemoryOf, IsBuilt, AreBuilt}
+use Rattle.gg_build.specs.inside.Given.{Given, IsBodyAt, cut_of}
 use Rattle.gg_build.proofs.PlanLemmas.BridgeLemmas.{driven_place, seen_place}
-use Rattle.gg_build.proofs.PlanLemmas.GivenLemmas.{routed}
+use Rattle.gg_build.proofs.PlanLemmas.GivenLemmas.{is-routed}
 use Rattle.gg_build.proofs.PlanLemmas.SeatLemmas.{IsSeatOf, low-seat, source-at, tray-seat}
 use Rattle.gg_build.proofs.PlanLemmas.SideLemmas.{source-takes, tray-takes, tray-gives-none}
 use Rattle.gg_build.proofs.PlanLemmas.PortLemmas.{needs-there, no-needs, needs-count, piece-needs, IsFitPort, ports-fit}
@@ -95,55 +89,50 @@ module _ (design : Ordered) (listed : Listed) (hub : Hub) (m : ℕ) (part : Part
 fitting-by : (one other : List Link) (m n : ℕ) (kind : Kind) → channels_to one m ≡ channels_to other n → channels_from one m ≡ channels_from other n → IsFitting other n kind → IsFitting one m kind
 fitting-by one other m n kind into from fit = record { ins = fit.ins ∙ ap length (sym into); outs = fit.outs ∙ ap length (sym from); needs = fit.needs; fields = fit.fields; numbers = fit.numbers }
 
-module _ (design : Ordered) (request : Request) (models : Models) (can : CanBridge design request models) where
-  abbrev listed : Listed
-  listed = listed_of design.tree request
+-- the kind of a machine of the network by its number
+pub kind-is : (machines : List Machine) (m : ℕ) → m < length machines → kind_at (map kind_of machines) m ≡ kind_of (machine_at machines m)
+kind-is machines m lt = get_or-map kind_of machines m no_machine no_kind lt
 
-  abbrev hub : Hub
-  hub = plan_hub design.circuit design.tree request
-
-  abbrev wires : List Link
-  wires = plan_wires design.circuit design.tree request
-
-  abbrev is-routed : AreRoutes design listed hub
-  is-routed = routed design request models can
+module _ (given : Given) where
+  open given use {design, request, plan, columns}
+  open cut_of design request use {listed, hub, wires}
 
   -- what fits machine `base` of the cut fits the plan's machine that it is
   seat-fits : (m base : ℕ) (kind : Kind) → IsSeatOf design request m base → IsFitting (routes hub) base kind → IsFitting wires m kind
   seat-fits m base kind seat fit = fitting-by wires (routes hub) m base kind seat.into seat.from fit
 
-  fits : (columns : List (List ℕ)) (m : ℕ) (own : Start) (body : Body) (machine : Machine) → IsBody design request models listed hub m body → IsBuilt columns (length (channels_from wires m)) own body machine → IsFitting wires m (kind_of machine)
-  fits columns m own (Cut part) machine body built =
-      seat-fits m m (kind_of machine) (low-seat design request is-routed m (omega (arith, body.0))) (unit-fits design listed hub m part body.1 own machine built)
-  fits columns m own (Memory part) machine body built = seat-fits m m (kind_of machine) (low-seat design request is-routed m body.1) (memory-fits design listed hub m part body.2 own machine built)
-  fits columns m own (Source place) machine body built =
-      let source = source-at design request is-routed m place body.0 body.1 in
+  fits : (m : ℕ) (own : Start) (body : Body) (machine : Machine) → IsBodyAt given m body → IsBuilt columns (length (channels_from wires m)) own body machine → IsFitting wires m (kind_of machine)
+  fits m own (Cut part) machine body built =
+      seat-fits m m (kind_of machine) (low-seat design request (is-routed given) m (omega (arith, body.0))) (unit-fits design listed hub m part body.1 own machine built)
+  fits m own (Memory part) machine body built = seat-fits m m (kind_of machine) (low-seat design request (is-routed given) m body.1) (memory-fits design listed hub m part body.2 own machine built)
+  fits m own (Source place) machine body built =
+      let source = source-at design request (is-routed given) m place body.0 body.1 in
       let seat = source.seat in
       subst (λ (t : Machine). IsFitting wires m (kind_of t)) (sym built)
       (record {
-        ins = sym (ap length seat.into ∙ source-takes design listed hub is-routed (first_source listed + source.base) source.base source.known refl);
+        ins = sym (ap length seat.into ∙ source-takes design listed hub (is-routed given) (first_source listed + source.base) source.base source.known refl);
         outs = length-replicate (length (channels_from wires m)) false;
         needs = λ o i has. absurd (no-needs (length (replicate (length (channels_from wires m)) false)) o i has);
         fields = no-ports-fields 0;
         numbers = no-ports-numbers;
       })
-  fits columns m own Tray machine body built =
-      let tray = tray-seat design request is-routed m body.0 body.1 in
+  fits m own Tray machine body built =
+      let tray = tray-seat design request (is-routed given) m body.0 body.1 in
       let seat = tray.seat in
       let base = first_tray design.circuit listed + tray.place in
       subst (λ (t : Machine). IsFitting wires m (kind_of t)) (sym built)
       (record {
-        ins = sym (ap length seat.into ∙ tray-takes design listed hub is-routed base (omega arith) seat.known);
-        outs = sym (ap length seat.from ∙ tray-gives-none design listed hub is-routed base (omega arith) seat.known);
+        ins = sym (ap length seat.into ∙ tray-takes design listed hub (is-routed given) base (omega arith) seat.known);
+        outs = sym (ap length seat.from ∙ tray-gives-none design listed hub (is-routed given) base (omega arith) seat.known);
         needs = λ o i has. absurd (omega (arith, has.1));
         fields = no-ports-fields 1;
         numbers = no-ports-numbers;
       })
-  fits columns m own (Bridge bridge) machine body built =
+  fits m own (Bridge bridge) machine body built =
       let piece = turned bridge.model bridge.ins bridge.outs in
       let at = body.1 in
-      let ins : length bridge.ins ≡ length (channels_to wires m) = ap length at.ins ∙ length-map (channels_to wires m) (seen_place design request models can m bridge body.0 at) in
-      let outs : length bridge.outs ≡ length (channels_from wires m) = ap length at.outs ∙ length-map (channels_from wires m) (driven_place design request models can m bridge body.0 at) in
+      let ins : length bridge.ins ≡ length (channels_to wires m) = ap length at.ins ∙ length-map (channels_to wires m) (seen_place given m bridge body) in
+      let outs : length bridge.outs ≡ length (channels_from wires m) = ap length at.outs ∙ length-map (channels_from wires m) (driven_place given m bridge body) in
       subst (λ (t : Machine). IsFitting wires m (kind_of t)) (sym built)
       (record {
         ins = length-replicate (length piece.ins) empty_latch ∙ length-map bridge.ins (value_at bridge.model.ins) ∙ ins;
@@ -153,19 +142,13 @@ module _ (design : Ordered) (request : Request) (models : Models) (can : CanBrid
         numbers = no-ports-numbers;
       })
 
--- the kind of a machine of the network by its number
-pub kind-is : (machines : List Machine) (m : ℕ) → m < length machines → kind_at (map kind_of machines) m ≡ kind_of (machine_at machines m)
-kind-is machines m lt = get_or-map kind_of machines m no_machine no_kind lt
-
-pub fitting : (design : Ordered) (request : Request) (models : Models) (default : ℕ) (plan : Plan) (starts : Body → Start) (columns : List (List ℕ)) (machines : List Machine) → CanBridge design request models → IsPlan design request models default plan → AreBuilt plan starts columns machines
-    → AreFitting (plan_wires design.circuit design.tree request) (length plan.machines) (map kind_of machines)
-fitting design request models default plan starts columns machines can planned built =
-    let links = plan_wires design.circuit design.tree request in
-    record {
-      total = length-map machines kind_of ∙ built.count;
-      each = λ m lt.
-          let own = planned.machine m nameless lt in
-          subst (IsFitting links m) (sym (kind-is machines m (omega (arith, lt, built.count))))
-          (fits design request models can columns m (starts (machine_in plan m).body) (machine_in plan m).body (machine_at machines m) own.body
-          (subst (λ (l : List ℕ). IsBuilt columns (length l) (starts (machine_in plan m).body) (machine_in plan m).body (machine_at machines m)) own.outs (built.each m lt)));
-    }
+  pub fitting : (starts : Body → Start) (machines : List Machine) → AreBuilt plan starts columns machines → AreFitting wires (length plan.machines) (map kind_of machines)
+  fitting starts machines built =
+      record {
+        total = length-map machines kind_of ∙ built.count;
+        each = λ m lt.
+            let own = given.planned.machine m nameless lt in
+            subst (IsFitting wires m) (sym (kind-is machines m (omega (arith, lt, built.count))))
+            (fits m (starts (machine_in plan m).body) (machine_in plan m).body (machine_at machines m) own.body
+            (subst (λ (l : List ℕ). IsBuilt columns (length l) (starts (machine_in plan m).body) (machine_in plan m).body (machine_at machines m)) own.outs (built.each m lt)));
+      }

@@ -1,5 +1,5 @@
 -- The network of a plan has the layout of its cut.
-use Rattle.std.proofs.Common.{◌≡◌, ℕ, ◌+◌, ◌<◌, ◌≤◌, List, [], length, map, get_or, Bool, true, false, None, refl, sym, ◌∙◌, ap, subst, inl, inr, ◌⊎◌, arith}
+use Rattle.std.proofs.Common.{◌≡◌, ℕ, ◌+◌, ◌<◌, ◌≤◌, List, [], length, map, get_or, Bool, true, false, refl, sym, ◌∙◌, ap, subst, inl, inr, ◌⊎◌, arith}
 use Rattle.std.specs.Prelude.{Contains, ◌&&◌, if◌then◌else◌, is_some, nat_le, nat_lt}
 use Rattle.std.specs.List.{range_with_len}
 use Rattle.std.proofs.lemmas.Bool.{lt-leb, le-ltb, le-leb, lt-ltb}
@@ -11,37 +11,27 @@ use Rattle.gg_flat.proofs.ListLemmas.{some-item}
 use Rattle.gg_flat.specs.Run.{Start}
 use Rattle.gg_order.specs.Design.{Ordered}
 use Rattle.gg_partfile.specs.declared.request.Request.{Request}
-use Rattle.gg_cut_plan.specs.declared.listed.Listed.{Listed}
 use Rattle.gg_cut_plan.specs.declared.plan.Body.{Body}
 use Rattle.gg_cut_plan.specs.declared.plan.Body.TheVariants.{Cut, Memory, Source, Tray, Bridge}
 use Rattle.gg_cut_plan.specs.declared.plan.Channel.{Channel}
 use Rattle.gg_cut_plan.specs.declared.plan.Plan.{Plan}
-use Rattle.gg_cut_plan.specs.declared.wires.Wire.{Wire}
-use Rattle.gg_cut_plan.specs.Listed.{listed_of}
 use Rattle.gg_cut_plan.specs.Machines.{first_memory, first_source}
 use Rattle.gg_cut_plan.specs.Bridges.{Models}
-use Rattle.gg_cut_plan.specs.Fault.{first_fault}
-use Rattle.gg_cut_plan.specs.Direct.{Hub, plan_hub}
-use Rattle.gg_cut_plan.specs.Seated.{machine_end, plan_bridges, plan_wires}
-use Rattle.gg_cut_plan.specs.Plan.{wire_at, channels_to, channels_from, IsBody}
-use Rattle.gg_cut_split.specs.inside.Apart.{AreApart, AreFew}
-use Rattle.gg_cut_split.proofs.ClosedLemmas.FaultlessLemmas.{faultless-apart, faultless-few}
-use Rattle.gg_cut_routes.specs.inside.Routes.{AreRoutes}
+use Rattle.gg_cut_plan.specs.Seated.{machine_end}
+use Rattle.gg_cut_plan.specs.Plan.{wire_at, channels_to, channels_from}
 use Rattle.gg_cut_reference.specs.text.CheckText.{AreChannelNeeds}
 use Rattle.gg_cut_reference.proofs.TextLemmas.PlanLemmas.{channel-needs}
-use Rattle.gg_node.specs.Machine.{Machine, machine_at, needs_at}
+use Rattle.gg_node.specs.Machine.{Machine, Port, machine_at, needs_at}
 use Rattle.gg_memunit.specs.MemoryUnit.{ports_of}
-use Rattle.gg_memunit.proofs.UnitLemmas.{sole}
 use Rattle.gg_net.specs.Network.{Frame, Kind, kind_of, kind_at, no_kind, wire_at as joint_at}
 use Rattle.gg_net.specs.Refusal.{Turn}
 use Rattle.gg_net.specs.markings.Marking.{Link, Layout, link_at, turns_at}
 use Rattle.gg_net.specs.inside.Fits.{AreTaken, AreTurnsOf, HasLayout, IsLinkOf, places_of}
 use Rattle.gg_build.specs.plan.Built.{machine_in, nameless, place_in, first_token, wires_of_plan, AreBuilt, IsBuilt, IsGiven, plan_frame}
-use Rattle.gg_build.proofs.PlanLemmas.GivenLemmas.{faultless, routed}
-use Rattle.gg_build.proofs.PlanLemmas.LinkLemmas.{AreLinks, length-wires, linked}
-use Rattle.gg_build.proofs.PlanLemmas.PlanLemmas.{links}
+use Rattle.gg_build.specs.inside.Given.{Given, IsBodyAt, cut_of, given_of}
+use Rattle.gg_build.proofs.PlanLemmas.GivenLemmas.{are-links, body-at}
+use Rattle.gg_build.proofs.PlanLemmas.LinkLemmas.{length-wires, linked}
 use Rattle.gg_build.proofs.PlanLemmas.FitLemmas.{kind-is}
-use Rattle.gg_build.proofs.PlanLemmas.MemoryPartLemmas.{memory-part}
 use Rattle.gg_cut_plan.specs.Machines.{is_memory}
 use Rattle.gg_build.specs.plan.CutLayout.{IsChannelLink, IsLayoutBy, IsLayoutOf, machine_ports, machine_turns, memory_turns, memory_of}
 use Rattle.gg_build.proofs.PlanLemmas.AscendingLemmas.{AreMadeOf, made-same}
@@ -70,37 +60,16 @@ has-token false token = refl
 no-turns : (frame : Frame) (m : ℕ) (turns : List Turn) → turns ≡ [] → AreTurnsOf frame m [] turns
 no-turns frame m turns none = record { count = ap length none; each = λ i port turn lt. absurd (omega (arith, lt)) }
 
-module _ (design : Ordered) (request : Request) (models : Models) (default : ℕ) (plan : Plan) (columns : List (List ℕ)) (n : ℕ) (start : Start) (rows : List (List ℕ)) (token : ℕ → ℕ) (starts : Body → Start) (machines : List Machine) (given : IsGiven design request models default plan columns n start rows) (built : AreBuilt plan starts columns machines) where
-  abbrev listed : Listed
-  listed = listed_of design.tree request
-
-  abbrev wires : List Wire
-  wires = plan_wires design.circuit design.tree request
-
-  abbrev hub : Hub
-  hub = plan_hub design.circuit design.tree request
+module _ (given : Given) (token : ℕ → ℕ) (starts : Body → Start) (machines : List Machine) (built : AreBuilt given.plan starts given.columns machines) where
+  open given use {design, request, models, default, plan, columns, n}
+  open cut_of design request use {listed, bridges as b, wires}
 
   abbrev frame : Frame
   frame = plan_frame token plan machines n
 
   -- how many machines there are
   abbrev total : ℕ
-  total = machine_end (plan_bridges design.circuit design.tree request)
-
-  none : first_fault design request ≡ None
-  none = faultless design request models given.can
-
-  apart : AreApart design.tree listed
-  apart = faultless-apart design request none given.can.keeps.fitting
-
-  few : AreFew design.circuit design.tree request
-  few = faultless-few design request none
-
-  is-routed : AreRoutes design listed hub
-  is-routed = routed design request models given.can
-
-  are : AreLinks plan wires
-  are = links design request models default plan columns n start rows token starts machines given built
+  total = machine_end b
 
   -- ---- the layout
 
@@ -108,17 +77,17 @@ module _ (design : Ordered) (request : Request) (models : Models) (default : ℕ
   link_of channel = record { producer = channel.producer; consumer = channel.consumer; capacity = channel.capacity; needs = channel.needs; piped = channel.pipe }
 
   abbrev turns_of : ℕ → List Turn
-  turns_of m = machine_turns design.circuit design.tree (listed_of design.tree request) (plan_wires design.circuit design.tree request) m
+  turns_of m = machine_turns design.circuit design.tree listed wires m
 
   abbrev ports_at : ℕ → ℕ
-  ports_at m = machine_ports design.circuit design.tree (listed_of design.tree request) m
+  ports_at m = machine_ports design.circuit design.tree listed m
 
   abbrev pub layout : Layout
   layout =
       record {
         links = map link_of plan.channels;
-        port_counts = map ports_at (range_with_len 0 (machine_end (plan_bridges design.circuit design.tree request)));
-        turns = map turns_of (range_with_len 0 (machine_end (plan_bridges design.circuit design.tree request)));
+        port_counts = map ports_at (range_with_len 0 (machine_end b));
+        turns = map turns_of (range_with_len 0 (machine_end b));
         end = n;
       }
 
@@ -169,7 +138,7 @@ module _ (design : Ordered) (request : Request) (models : Models) (default : ℕ
     place d = (joint_at (wires_of_plan token plan) d).place
 
     below : p < length plan.machines
-    below = (are.ends c lt).0
+    below = ((are-links given).ends c lt).0
 
     own-needs : HasOutNeeds wires p c needs (kind_of (machine_at machines p))
     own-needs =
@@ -177,11 +146,11 @@ module _ (design : Ordered) (request : Request) (models : Models) (default : ℕ
         let any = some-item plan.channels c known in
         let machine = given.planned.machine p nameless below in
         subst (λ (link : Link). HasOutNeeds wires p c link.needs (kind_of (machine_at machines p))) (sym (link-is c any known))
-        (out-needs design request models given.can p c (record { known = lt; producer = refl }) columns (length (machine_in plan p).outs) (starts (machine_in plan p).body) (machine_in plan p).body (machine_at machines p) (machine_in plan p).ins (get_or plan.channels c any).needs machine.body (built.each p below) machine.ins ((given.planned.channel c any known).needs nameless))
+        (out-needs given p c (record { known = lt; producer = refl }) columns (length (machine_in plan p).outs) (starts (machine_in plan p).body) (machine_in plan p).body (machine_at machines p) (machine_in plan p).ins (get_or plan.channels c any).needs machine.body (built.each p below) machine.ins ((given.planned.channel c any known).needs nameless))
 
     -- the place of a needed channel is its place among the channels that the machine takes
     place-is : (d : ℕ) → Contains needs d → place d ≡ place_in (channels_to wires p) d
-    place-is d has = let need = ((link-needs c lt).each d).0 has in place-at token plan wires are p d need.known need.taken
+    place-is d has = let need = ((link-needs c lt).each d).0 has in place-at token plan wires (are-links given) p d need.known need.taken
 
     grows : (d e : ℕ) → Contains needs d → Contains needs e → d < e → place d < place e
     grows d e one other less =
@@ -200,7 +169,7 @@ module _ (design : Ordered) (request : Request) (models : Models) (default : ℕ
 
     needs-are : places_of frame needs ≡ needs_at (kind_at frame.kinds (joint_at frame.wires c).producer).needs (joint_at frame.wires c).out
     needs-are =
-        let link = linked token plan wires are c lt in
+        let link = linked token plan wires (are-links given) c lt in
         made-same place needs (needs_at (kind_of (machine_at machines p)).needs (place_in (channels_from wires p) c)) (link-needs c lt).ascending own-needs.up grows made
         ∙ ap (λ o. needs_at (kind_of (machine_at machines p)).needs o) (sym link.out)
         ∙ ap (λ k. needs_at k.needs (joint_at frame.wires c).out) (sym (kind-is machines p (omega (arith, below, built.count))))
@@ -210,18 +179,18 @@ module _ (design : Ordered) (request : Request) (models : Models) (default : ℕ
     needs-taken i d within =
         let x = get_or needs i d in
         let need = ((link-needs c lt).each x).0 (Contains-get_or needs i d within) in
-        (omega (arith, need.known, length-wires token plan wires are), (linked token plan wires are x need.known).consumer ∙ need.taken ∙ sym (linked token plan wires are c lt).producer)
+        (omega (arith, need.known, length-wires token plan wires (are-links given)), (linked token plan wires (are-links given) x need.known).consumer ∙ need.taken ∙ sym (linked token plan wires (are-links given) c lt).producer)
 
     net-link : IsLinkOf frame c (link_at layout c)
     net-link =
         let known : c < length plan.channels = omega (arith, lt, given.planned.channel_total) in
         let any = some-item plan.channels c known in
-        let link = linked token plan wires are c lt in
+        let link = linked token plan wires (are-links given) c lt in
         let cut = cut-link c lt in
         record {
           producer = cut.producer ∙ sym link.producer;
           consumer = cut.consumer ∙ sym link.consumer;
-          capacity = ap (λ (l : Link). l.capacity) (link-is c any known) ∙ sym (joint-capacity token plan wires are c any known);
+          capacity = ap (λ (l : Link). l.capacity) (link-is c any known) ∙ sym (joint-capacity token plan wires (are-links given) c any known);
           piped = ap (λ (l : Link). l.piped) (link-is c any known) ∙ has-token (get_or plan.channels c any).pipe (token (get_or plan.channels c any).signal) ∙ sym (ap is_some (link.first any known));
           needs = needs-are;
           taken = needs-taken;
@@ -240,54 +209,45 @@ module _ (design : Ordered) (request : Request) (models : Models) (default : ℕ
     not-memory : (m < first_memory listed) ⊎ (first_source listed ≤ m) → turns_of m ≡ []
     not-memory = otherwise (memory_turns design.circuit wires (memory_of design.tree listed m)) []
 
-    no-ports : (m < first_memory listed) ⊎ (first_source listed ≤ m) → ports_at m ≡ 0
-    no-ports = otherwise (port_count design.circuit (memory_of design.tree listed m)) 0
+    -- a machine that is no listed memory has no ports, and serves none
+    other-ports : (machine : Machine) → (m < first_memory listed) ⊎ (first_source listed ≤ m) → (kind_of machine).port_count ≡ 0 → ports_at m ≡ (kind_of machine).port_count
+    other-ports machine other none = otherwise (port_count design.circuit (memory_of design.tree listed m)) 0 other ∙ sym none
 
-    body-ports : (outs : ℕ) (own : Start) (body : Body) (machine : Machine) → IsBody design request models listed hub m body → IsBuilt columns outs own body machine → ports_at m ≡ (kind_of machine).port_count
-    body-ports outs own (Cut part) machine body unit = subst (λ (t : Machine). ports_at m ≡ (kind_of t).port_count) (sym unit.is) (no-ports (inl body.0))
+    other-turns : (machine : Machine) → (m < first_memory listed) ⊎ (first_source listed ≤ m) → (kind_of machine).ports ≡ [] → AreTurnsOf frame m (kind_of machine).ports (turns_of m)
+    other-turns machine other none = subst (λ (l : List Port). AreTurnsOf frame m l (turns_of m)) (sym none) (no-turns frame m (turns_of m) (not-memory other))
+
+    body-ports : (outs : ℕ) (own : Start) (body : Body) (machine : Machine) → IsBodyAt given m body → IsBuilt columns outs own body machine → ports_at m ≡ (kind_of machine).port_count
+    body-ports outs own (Cut part) machine body unit = other-ports machine (inl body.0) (ap (λ (t : Machine). (kind_of t).port_count) unit.is)
     body-ports outs own (Memory part) machine body stands =
-        let outer = memory-part design request m part given.can.design_is given.can.keeps apart is-routed body.0 body.1 body.2 few in
-        let inner = sole stands.alone.piece.memories stands.is_memory.one in
         subst (λ (t : Machine). ports_at m ≡ (kind_of t).port_count) (sym stands.is)
-        (of-memory (port_count design.circuit (memory_of design.tree listed m)) 0 body.0 body.1
-        ∙ memory-ports design request m part given.can.design_is given.can.keeps none body.0 body.1 body.2 own machine stands outer.0 inner.0 outer.1 inner.1)
-    body-ports outs own (Source place) machine body is = subst (λ (t : Machine). ports_at m ≡ (kind_of t).port_count) (sym is) (no-ports (inr (omega (arith, body.1))))
-    body-ports outs own Tray machine body is =
-        let low : first_source listed ≤ m = omega (arith, body.0) in
-        subst (λ (t : Machine). ports_at m ≡ (kind_of t).port_count) (sym is) (no-ports (inr low))
-    body-ports outs own (Bridge bridge) machine body is =
-        let low : first_source listed ≤ m = omega (arith, body.0) in
-        subst (λ (t : Machine). ports_at m ≡ (kind_of t).port_count) (sym is) (no-ports (inr low))
+        (of-memory (port_count design.circuit (memory_of design.tree listed m)) 0 body.0 body.1 ∙ memory-ports given m part body own machine stands)
+    body-ports outs own (Source place) machine body is = other-ports machine (inr (omega (arith, body.1))) (ap (λ (t : Machine). (kind_of t).port_count) is)
+    body-ports outs own Tray machine body is = other-ports machine (inr (omega (arith, body.0))) (ap (λ (t : Machine). (kind_of t).port_count) is)
+    body-ports outs own (Bridge bridge) machine body is = other-ports machine (inr (omega (arith, body.0))) (ap (λ (t : Machine). (kind_of t).port_count) is)
 
     port-count : ports_at m ≡ (kind_at frame.kinds m).port_count
     port-count =
         let below : m < length plan.machines = omega (arith, lt, given.planned.machine_total) in
         subst (λ k. ports_at m ≡ k.port_count) (sym (kind-is machines m (omega (arith, below, built.count))))
-        (body-ports (length (machine_in plan m).outs) (starts (machine_in plan m).body) (machine_in plan m).body (machine_at machines m) (given.planned.machine m nameless below).body (built.each m below))
+        (body-ports (length (machine_in plan m).outs) (starts (machine_in plan m).body) (machine_in plan m).body (machine_at machines m) (body-at given m below) (built.each m below))
 
-    body-turns : (outs : ℕ) (own : Start) (body : Body) (machine : Machine) → IsBody design request models listed hub m body → IsBuilt columns outs own body machine → AreTurnsOf frame m (kind_of machine).ports (turns_of m)
-    body-turns outs own (Cut part) machine body unit = subst (λ (t : Machine). AreTurnsOf frame m (kind_of t).ports (turns_of m)) (sym unit.is) (no-turns frame m (turns_of m) (not-memory (inl body.0)))
+    body-turns : (outs : ℕ) (own : Start) (body : Body) (machine : Machine) → IsBodyAt given m body → IsBuilt columns outs own body machine → AreTurnsOf frame m (kind_of machine).ports (turns_of m)
+    body-turns outs own (Cut part) machine body unit = other-turns machine (inl body.0) (ap (λ (t : Machine). (kind_of t).ports) unit.is)
     body-turns outs own (Memory part) machine body stands =
-        let outer = memory-part design request m part given.can.design_is given.can.keeps apart is-routed body.0 body.1 body.2 few in
-        let inner = sole stands.alone.piece.memories stands.is_memory.one in
-        let are_turns = memory-turns design request m part given.can.design_is given.can.keeps none body.0 body.1 body.2 own machine stands outer.0 inner.0 outer.1 inner.1 token plan are frame refl in
+        let are_turns = memory-turns given m part body own machine stands token frame refl in
         let same = of-memory (memory_turns design.circuit wires (memory_of design.tree listed m)) [] body.0 body.1 in
         subst (λ (t : Machine). AreTurnsOf frame m (kind_of t).ports (turns_of m)) (sym stands.is)
         (subst (λ (l : List Turn). AreTurnsOf frame m (ports_of stands.alone.piece.memories) l) (sym same) are_turns)
-    body-turns outs own (Source place) machine body is = subst (λ (t : Machine). AreTurnsOf frame m (kind_of t).ports (turns_of m)) (sym is) (no-turns frame m (turns_of m) (not-memory (inr (omega (arith, body.1)))))
-    body-turns outs own Tray machine body is =
-        let low : first_source listed ≤ m = omega (arith, body.0) in
-        subst (λ (t : Machine). AreTurnsOf frame m (kind_of t).ports (turns_of m)) (sym is) (no-turns frame m (turns_of m) (not-memory (inr low)))
-    body-turns outs own (Bridge bridge) machine body is =
-        let low : first_source listed ≤ m = omega (arith, body.0) in
-        subst (λ (t : Machine). AreTurnsOf frame m (kind_of t).ports (turns_of m)) (sym is) (no-turns frame m (turns_of m) (not-memory (inr low)))
+    body-turns outs own (Source place) machine body is = other-turns machine (inr (omega (arith, body.1))) (ap (λ (t : Machine). (kind_of t).ports) is)
+    body-turns outs own Tray machine body is = other-turns machine (inr (omega (arith, body.0))) (ap (λ (t : Machine). (kind_of t).ports) is)
+    body-turns outs own (Bridge bridge) machine body is = other-turns machine (inr (omega (arith, body.0))) (ap (λ (t : Machine). (kind_of t).ports) is)
 
     net-turns : AreTurnsOf frame m (kind_at frame.kinds m).ports (turns_at layout m)
     net-turns =
         let below : m < length plan.machines = omega (arith, lt, given.planned.machine_total) in
         subst (λ (l : List Turn). AreTurnsOf frame m (kind_at frame.kinds m).ports l) (sym (turns-are m lt))
         (subst (λ k. AreTurnsOf frame m k.ports (turns_of m)) (sym (kind-is machines m (omega (arith, below, built.count))))
-        (body-turns (length (machine_in plan m).outs) (starts (machine_in plan m).body) (machine_in plan m).body (machine_at machines m) (given.planned.machine m nameless below).body (built.each m below)))
+        (body-turns (length (machine_in plan m).outs) (starts (machine_in plan m).body) (machine_in plan m).body (machine_at machines m) (body-at given m below) (built.each m below)))
 
   net-ports : layout.port_counts ≡ map (λ (kind : Kind). kind.port_count) frame.kinds
   net-ports =
@@ -308,7 +268,7 @@ module _ (design : Ordered) (request : Request) (models : Models) (default : ℕ
   of-network =
       let count = total in
       let kinds = length-map machines kind_of in
-      let joints = length-wires token plan wires are in
+      let joints = length-wires token plan wires (are-links given) in
       record {
         machines = omega (arith, length-map (range_with_len 0 count) turns_of, length-range_with_len 0 count, kinds, built.count, given.planned.machine_total);
         channels = omega (arith, length-map plan.channels link_of, joints, given.planned.channel_total);
@@ -321,4 +281,4 @@ module _ (design : Ordered) (request : Request) (models : Models) (default : ℕ
 pub plan-layout : (design : Ordered) (request : Request) (models : Models) (default : ℕ) (plan : Plan) (columns : List (List ℕ)) (n : ℕ) (start : Start) (rows : List (List ℕ)) (token : ℕ → ℕ) (starts : Body → Start) (machines : List Machine) → IsGiven design request models default plan columns n start rows → AreBuilt plan starts columns machines
     → (layout : Layout) × (IsLayoutOf design request default n layout × HasLayout (plan_frame token plan machines n) layout)
 plan-layout design request models default plan columns n start rows token starts machines given built =
-    (layout design request models default plan columns n start rows token starts machines given built, (of-cut design request models default plan columns n start rows token starts machines given built, of-network design request models default plan columns n start rows token starts machines given built))
+    (layout (given_of given) token starts machines built, (of-cut (given_of given) token starts machines built, of-network (given_of given) token starts machines built))

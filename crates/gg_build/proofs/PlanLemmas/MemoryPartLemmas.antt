@@ -8,8 +8,8 @@ use Rattle.gg_flat.specs.declared.memory.Reader.{Reader}
 use Rattle.gg_flat.specs.declared.memory.Writer.{Writer}
 use Rattle.gg_flat.specs.declared.memory.Memory.{Memory}
 use Rattle.gg_flat.specs.Line.{value_at}
-use Rattle.gg_flat.specs.Circuit.{FlatCircuit, readers_at}
-use Rattle.gg_flat_tree.specs.Tree.{InstanceTree, memory_at}
+use Rattle.gg_flat.specs.Circuit.{readers_at}
+use Rattle.gg_flat_tree.specs.Tree.{memory_at}
 use Rattle.gg_flat_tree.specs.Scoped.{writers_at}
 use Rattle.gg_flat.proofs.ListLemmas.{Contains-map}
 use Rattle.gg_part.specs.KeepsToTree.{KeepsToTree}
@@ -17,12 +17,11 @@ use Rattle.gg_order.specs.Design.{Ordered, IsDesign}
 use Rattle.gg_partfile.specs.declared.request.Request.{Request}
 use Rattle.gg_part.specs.Part.{IsMemoryFrom, MemoryBelow, in_whole}
 use Rattle.gg_part.specs.declared.part.Part.{Part}
-use Rattle.gg_cut_plan.specs.declared.listed.Listed.{Listed}
 use Rattle.gg_cut_plan.specs.declared.wires.Wire.{Wire as Link}
 use Rattle.gg_cut_plan.specs.Listed.{listed_of, first_place, unit_or_hub, memory_or, has_signal, owner_of, owner_of_instance}
 use Rattle.gg_cut_plan.specs.Machines.{first_memory, first_source, is_memory}
 use Rattle.gg_cut_plan.specs.Channels.{wire, flattened, reader_wires, writer_wires, wires_of}
-use Rattle.gg_cut_plan.specs.Direct.{Hub, is_driven, is_piped, plan_hub, plan_routes}
+use Rattle.gg_cut_plan.specs.Direct.{is_driven, is_piped, plan_hub}
 use Rattle.gg_cut_plan.specs.Plan.{wire_at as link_at, channels_to, channels_from, signals_of, givens_of, IsInner, MakesBy, Takes, HasMemory, IsCutPart}
 use Rattle.gg_cut_plan.proofs.WireLemmas.{unit-below, unit_or_hub-below}
 use Rattle.gg_cut_split.specs.inside.Apart.{AreApart, AreFew}
@@ -36,6 +35,7 @@ use Rattle.gg_cut_routes.proofs.RouteLemmas.{IsBase}
 use Rattle.gg_cut_routes.proofs.PlanLemmas.{plan-base}
 use Rattle.gg_cut_routes.proofs.UnitLemmas.{ins-still}
 use Rattle.gg_memunit.proofs.UnitLemmas.{sole}
+use Rattle.gg_build.specs.inside.Given.{cut_of}
 use Rattle.gg_build.proofs.PlanLemmas.NumberLemmas.{numbers-once, one-in, one-is}
 use Rattle.gg_build.proofs.PlanLemmas.ListedLemmas.{taken-is, given-is}
 use Rattle.gg_build.proofs.PlanLemmas.SideLemmas.{link-one}
@@ -67,34 +67,21 @@ pub record IsMemoryPart (part : Part) (memory : Memory) : Type 0 where
 
 module _ (design : Ordered) (request : Request) (m : ℕ) (part : Part) (is : IsDesign design) (keeps : KeepsToTree design.circuit design.tree) (apart : AreApart design.tree (listed_of design.tree request)) (routed : AreRoutes design (listed_of design.tree request) (plan_hub design.circuit design.tree request))
     (low : first_memory (listed_of design.tree request) ≤ m) (high : m < first_source (listed_of design.tree request)) (cut : IsCutPart design (listed_of design.tree request) (plan_hub design.circuit design.tree request) m part) where
-  abbrev circuit : FlatCircuit
-  circuit = design.circuit
-
-  abbrev tree : InstanceTree
-  tree = design.tree
-
-  abbrev listed : Listed
-  listed = listed_of design.tree request
-
-  abbrev hub : Hub
-  hub = plan_hub design.circuit design.tree request
+  open design use {circuit, tree}
+  open cut_of design request use {listed, hub, base as links}
 
   -- the channels before the routing
   abbrev plain : List Link
-  plain = wires_of design.circuit design.tree (listed_of design.tree request)
-
-  -- the channels of the cut
-  abbrev links : List Link
-  links = plan_routes design.circuit design.tree request
+  plain = wires_of circuit tree listed
 
   abbrev i : ℕ
-  i = m - first_memory (listed_of design.tree request)
+  i = m - first_memory listed
 
   abbrev own : ℕ
-  own = (memory_at design.tree (value_at (listed_of design.tree request).memories (m - first_memory (listed_of design.tree request)))).memory
+  own = (memory_at tree (value_at listed.memories i)).memory
 
   base : IsBase hub
-  base = plan-base design listed (is_piped design.circuit request) (is_driven design.circuit request) request.direct is keeps apart
+  base = plan-base design listed (is_piped circuit request) (is_driven circuit request) request.direct is keeps apart
 
   -- it is a listed memory, and not the hub
   number-is-memory : is_memory listed m ≡ true
@@ -110,7 +97,7 @@ module _ (design : Ordered) (request : Request) (m : ℕ) (part : Part) (is : Is
   number = omega (arith, low)
 
   -- out-signals are the hub's or a unit's
-  outputs-apart : (k : ℕ) → k < length design.circuit.outs → owner_of design.circuit design.tree listed (value_at design.circuit.outs k) ≢ m
+  outputs-apart : (k : ℕ) → k < length circuit.outs → owner_of circuit tree listed (value_at circuit.outs k) ≢ m
   outputs-apart k lt same = omega (arith, same, out-owner circuit tree listed keeps.fitting keeps.scoped apart k lt, low)
 
   -- ---- the memory

@@ -13,13 +13,10 @@ use Rattle.gg_cut_plan.specs.declared.listed.Listed.{Listed}
 use Rattle.gg_cut_plan.specs.declared.plan.Body.{Body}
 use Rattle.gg_cut_plan.specs.declared.plan.Body.TheVariants.{Cut, Memory, Source, Tray, Bridge}
 use Rattle.gg_cut_plan.specs.declared.wires.Wire.{Wire as Link}
-use Rattle.gg_partfile.specs.declared.request.Request.{Request}
-use Rattle.gg_cut_plan.specs.Bridges.{Models}
 use Rattle.gg_cut_plan.specs.Channels.{wire}
-use Rattle.gg_cut_plan.specs.Listed.{listed_of}
-use Rattle.gg_cut_plan.specs.Seated.{Bridges, plan_bridges, plan_wires, seated}
-use Rattle.gg_cut_plan.specs.Direct.{Hub, plan_hub, routes}
-use Rattle.gg_cut_plan.specs.Plan.{wire_at as link_at, channels_to, channels_from, signals_of, givens_of, IsCutPart, IsBody}
+use Rattle.gg_cut_plan.specs.Seated.{Bridges, seated}
+use Rattle.gg_cut_plan.specs.Direct.{Hub, routes}
+use Rattle.gg_cut_plan.specs.Plan.{wire_at as link_at, channels_to, channels_from, signals_of, givens_of, IsCutPart}
 use Rattle.gg_cut_routes.specs.inside.Routes.{AreRoutes}
 use Rattle.gg_bridge.specs.Turned.{turned}
 use Rattle.gg_memunit.specs.MemoryUnit.{needs_of}
@@ -28,6 +25,8 @@ use Rattle.gg_net.specs.Network.{Kind, kind_of}
 use Rattle.gg_cut_reference.proofs.FittingLemmas.LowLemmas.{givens-alike, signals-alike}
 use Rattle.gg_build.specs.plan.Built.{IsUnitOf, IsMemoryOf, IsBuilt}
 use Rattle.std.proofs.lemmas.List.Elements.{Contains-get_or}
+use Rattle.gg_build.specs.inside.Given.{Given, IsBodyAt, cut_of}
+use Rattle.gg_build.proofs.PlanLemmas.GivenLemmas.{is-routed}
 use Rattle.gg_build.proofs.PlanLemmas.FitLemmas.{ins-count, outs-count}
 use Rattle.gg_build.proofs.PlanLemmas.ListedLemmas.{given-at, taken-at}
 use Rattle.gg_build.proofs.PlanLemmas.SeatLemmas.{low-seat}
@@ -128,21 +127,19 @@ none-needed circuit links m outs kind is =
     let none : (o i : ℕ) → Contains (needs_at kind.needs o) i → ⊥ = λ o i has. no-needs outs o i (subst (λ (l : List (List ℕ)). Contains (needs_at l o) i) is has) in
     record { reach = λ o i has. absurd (none o i has); apart = λ o i has same. none o i has }
 
--- this holds for each machine of the network
-pub has-needs : (design : Ordered) (request : Request) (models : Models) (routed : AreRoutes design (listed_of design.tree request) (plan_hub design.circuit design.tree request)) (columns : List (List ℕ)) (outs m : ℕ) (own : Start) (body : Body) (machine : Machine) → IsBody design request models (listed_of design.tree request) (plan_hub design.circuit design.tree request) m body
-    → IsBuilt columns outs own body machine → HasNeeds design.circuit (plan_wires design.circuit design.tree request) m (kind_of machine)
-has-needs design request models routed columns outs m own (Cut part) machine body built =
-    let listed = listed_of design.tree request in
-    let hub = plan_hub design.circuit design.tree request in
-    let seat = low-seat design request routed m (omega (arith, body.0)) in
-    needs-by design.circuit (plan_bridges design.circuit design.tree request) (routes hub) m m (kind_of machine) seat.into seat.from (unit-needs design listed hub routed m part body.1 own machine built)
-has-needs design request models routed columns outs m own (Memory part) machine body built =
-    let listed = listed_of design.tree request in
-    let hub = plan_hub design.circuit design.tree request in
-    let seat = low-seat design request routed m body.1 in
-    needs-by design.circuit (plan_bridges design.circuit design.tree request) (routes hub) m m (kind_of machine) seat.into seat.from (memory-needs design listed hub routed m part body.2 own machine built)
-has-needs design request models routed columns outs m own (Source place) machine body built =
-    none-needed design.circuit (plan_wires design.circuit design.tree request) m (length (replicate outs false)) (kind_of machine) (ap (λ (t : Machine). t.needs) built)
-has-needs design request models routed columns outs m own Tray machine body built = none-needed design.circuit (plan_wires design.circuit design.tree request) m 0 (kind_of machine) (ap (λ (t : Machine). t.needs) built)
-has-needs design request models routed columns outs m own (Bridge bridge) machine body built =
-    none-needed design.circuit (plan_wires design.circuit design.tree request) m (length (turned bridge.model bridge.ins bridge.outs).outs) (kind_of machine) (ap (λ (t : Machine). t.needs) built)
+module _ (given : Given) where
+  open given use {design, request, columns}
+  open cut_of design request use {listed, hub, bridges as b, wires}
+
+  -- this holds for each machine of the network
+  pub has-needs : (outs m : ℕ) (own : Start) (body : Body) (machine : Machine) → IsBodyAt given m body → IsBuilt columns outs own body machine → HasNeeds design.circuit wires m (kind_of machine)
+  has-needs outs m own (Cut part) machine body built =
+      let seat = low-seat design request (is-routed given) m (omega (arith, body.0)) in
+      needs-by design.circuit b (routes hub) m m (kind_of machine) seat.into seat.from (unit-needs design listed hub (is-routed given) m part body.1 own machine built)
+  has-needs outs m own (Memory part) machine body built =
+      let seat = low-seat design request (is-routed given) m body.1 in
+      needs-by design.circuit b (routes hub) m m (kind_of machine) seat.into seat.from (memory-needs design listed hub (is-routed given) m part body.2 own machine built)
+  has-needs outs m own (Source place) machine body built = none-needed design.circuit wires m (length (replicate outs false)) (kind_of machine) (ap (λ (t : Machine). t.needs) built)
+  has-needs outs m own Tray machine body built = none-needed design.circuit wires m 0 (kind_of machine) (ap (λ (t : Machine). t.needs) built)
+  has-needs outs m own (Bridge bridge) machine body built =
+      none-needed design.circuit wires m (length (turned bridge.model bridge.ins bridge.outs).outs) (kind_of machine) (ap (λ (t : Machine). t.needs) built)

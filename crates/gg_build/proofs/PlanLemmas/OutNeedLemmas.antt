@@ -1,41 +1,32 @@
 -- The ins that an out of a machine needs are the ins of the channels that the out's channel needs.
-use Rattle.std.proofs.Common.{◌≡◌, ℕ, zero, suc, ◌<◌, ◌≤◌, List, [], false, None, length, refl, sym, ◌∙◌, ap, subst, arith}
+use Rattle.std.proofs.Common.{◌≡◌, ℕ, zero, suc, ◌<◌, List, [], false, length, refl, sym, ◌∙◌, ap, subst, arith}
 use Rattle.std.specs.Prelude.{Contains, AllPairs, ◌==◌, replicate}
 use Rattle.std.proofs.lemmas.List.{get_or-map}
 use Rattle.gg_flat.specs.Line.{value_at}
 use Rattle.gg_flat.specs.Run.{Start}
 use Rattle.gg_order.specs.Design.{Ordered}
 use Rattle.gg_part.specs.declared.part.Part.{Part}
-use Rattle.gg_partfile.specs.declared.request.Request.{Request}
 use Rattle.gg_cut_plan.specs.declared.listed.Listed.{Listed}
 use Rattle.gg_cut_plan.specs.declared.plan.Body.{Body}
 use Rattle.gg_cut_plan.specs.declared.plan.Body.TheVariants.{Cut, Memory, Source, Tray, Bridge}
 use Rattle.gg_cut_plan.specs.declared.wires.Wire.{Wire}
-use Rattle.gg_cut_plan.specs.Machines.{first_memory, first_source}
-use Rattle.gg_cut_plan.specs.Listed.{listed_of}
-use Rattle.gg_cut_plan.specs.Fault.{first_fault}
-use Rattle.gg_cut_plan.specs.Bridges.{Models}
-use Rattle.gg_cut_plan.specs.Direct.{Hub, routes, plan_hub, plan_routes}
-use Rattle.gg_cut_plan.specs.Seated.{plan_bridges, plan_wires}
+use Rattle.gg_cut_plan.specs.Machines.{first_source}
+use Rattle.gg_cut_plan.specs.Direct.{Hub, routes}
+use Rattle.gg_cut_plan.specs.Seated.{plan_wires}
 use Rattle.gg_cut_reference.proofs.FittingLemmas.LowLemmas.{wire-given}
 use Rattle.gg_bridge.specs.Turned.{turned}
-use Rattle.gg_cut_reference.specs.whole.Whole.{CanBridge}
-use Rattle.gg_cut_plan.specs.Plan.{wire_at, channels_to, channels_from, AreNeedsOf, IsBody, IsCutPart, NeedsIn}
-use Rattle.gg_cut_split.specs.inside.Apart.{AreApart, AreFew}
+use Rattle.gg_cut_plan.specs.Plan.{wire_at, channels_to, channels_from, AreNeedsOf, IsCutPart, NeedsIn}
 use Rattle.gg_cut_split.proofs.ClosedLemmas.ListLemmas.{pairs-nil}
-use Rattle.gg_cut_split.proofs.ClosedLemmas.FaultlessLemmas.{faultless-apart, faultless-few}
-use Rattle.gg_cut_routes.specs.inside.Routes.{AreRoutes}
 use Rattle.gg_memunit.specs.MemoryUnit.{needs_of}
-use Rattle.gg_memunit.proofs.UnitLemmas.{sole}
 use Rattle.gg_node.specs.Machine.{Machine, needs_at}
 use Rattle.gg_net.specs.Network.{Kind, kind_of}
 use Rattle.gg_build.specs.plan.Built.{place_in, IsBuilt, IsMemoryOf, IsUnitOf}
 use Rattle.gg_build.proofs.PlanLemmas.NumberLemmas.{numbers-once, place-back}
-use Rattle.gg_build.proofs.PlanLemmas.GivenLemmas.{faultless, routed}
+use Rattle.gg_build.specs.inside.Given.{Given, IsBodyAt, cut_of}
+use Rattle.gg_build.proofs.PlanLemmas.GivenLemmas.{is-routed}
 use Rattle.gg_build.proofs.PlanLemmas.SeatLemmas.{IsSeatOf, low-seat}
 use Rattle.gg_build.proofs.PlanLemmas.ListedLemmas.{IsGivenBy, given-in, given-is, given-placed}
 use Rattle.gg_build.proofs.PlanLemmas.FitLemmas.{ins-count, outs-count}
-use Rattle.gg_build.proofs.PlanLemmas.MemoryPartLemmas.{memory-part}
 use Rattle.gg_build.proofs.PlanLemmas.AscendingLemmas.{AreMadeOf}
 use Rattle.gg_build.proofs.PlanLemmas.ReachLemmas.{AreReached}
 use Rattle.gg_build.proofs.PlanLemmas.MemoryLemmas.{memory-needs}
@@ -111,48 +102,26 @@ needs-by one other m c needs kind into from has =
           (subst (λ (l : List ℕ). AreMadeOf (place_in (channels_to other m)) needs (needs_at kind.needs (place_in l c))) (sym from) has.made);
     }
 
-module _ (design : Ordered) (request : Request) (models : Models) (can : CanBridge design request models) (m c : ℕ) (given : IsGivenBy (plan_wires design.circuit design.tree request) m c) where
-  abbrev listed : Listed
-  listed = listed_of design.tree request
-
-  abbrev hub : Hub
-  hub = plan_hub design.circuit design.tree request
-
-  abbrev wires : List Wire
-  wires = plan_wires design.circuit design.tree request
-
-  -- the channels between the machines of the cut
-  abbrev base : List Wire
-  base = plan_routes design.circuit design.tree request
+module _ (given : Given) (m c : ℕ) (gives : IsGivenBy (plan_wires given.design.circuit given.design.tree given.request) m c) where
+  open given use {design, request}
+  open cut_of design request use {listed, hub, bridges as b, base, wires}
 
   abbrev o : ℕ
-  o = place_in (channels_from (plan_routes design.circuit design.tree request) m) c
-
-  none : first_fault design request ≡ None
-  none = faultless design request models can
-
-  apart : AreApart design.tree listed
-  apart = faultless-apart design request none can.keeps.fitting
-
-  few : AreFew design.circuit design.tree request
-  few = faultless-few design request none
-
-  is-routed : AreRoutes design listed hub
-  is-routed = routed design request models can
+  o = place_in (channels_from base m) c
 
   -- a machine with a piece gives the channel in the cut
   module _ (high : m < first_source listed) where
     seat : IsSeatOf design request m m
-    seat = low-seat design request is-routed m high
+    seat = low-seat design request (is-routed given) m high
 
     cut-given : IsGivenBy base m c
-    cut-given = given-is base m c (subst (λ (l : List ℕ). Contains l c) seat.from (given-in wires m c given))
+    cut-given = given-is base m c (subst (λ (l : List ℕ). Contains l c) seat.from (given-in wires m c gives))
 
     moved : (needs : List ℕ) (kind : Kind) → HasOutNeeds base m c needs kind → HasOutNeeds wires m c needs kind
     moved needs kind has = needs-by wires base m c needs kind seat.into seat.from has
 
     cut-signal : (wire_at wires c).given ≡ (wire_at base c).given
-    cut-signal = wire-given (plan_bridges design.circuit design.tree request) base c
+    cut-signal = wire-given b base c
 
     unit-out-needs : (part : Part) (cut : IsCutPart design listed hub m part) (own : Start) (machine : Machine) → IsUnitOf own part machine → (channels needs : List ℕ) → channels ≡ channels_to base m
         → ((out : ℕ) → out < length part.globals → value_at part.globals out ≡ (wire_at base c).given → AreNeedsOf part channels out needs) → HasOutNeeds base m c needs (kind_of machine)
@@ -161,14 +130,12 @@ module _ (design : Ordered) (request : Request) (models : Models) (can : CanBrid
         subst (λ (t : Machine). HasOutNeeds base m c needs (kind_of t)) (sym unit.is)
         (record { up = exact.ascending; made = part-made design listed hub m part cut c cut-given channels needs (needs_at unit.needs o) same are (record { ascending = exact.ascending; exact = exact.exact }) })
 
-    memory-out-needs : (part : Part) (cut : IsCutPart design listed hub m part) (low : first_memory listed ≤ m) (own : Start) (machine : Machine) → IsMemoryOf own part machine → (channels needs : List ℕ) → channels ≡ channels_to base m
+    memory-out-needs : (part : Part) (body : IsBodyAt given m (Memory part)) (own : Start) (machine : Machine) → IsMemoryOf own part machine → (channels needs : List ℕ) → channels ≡ channels_to base m
         → ((out : ℕ) → out < length part.globals → value_at part.globals out ≡ (wire_at base c).given → AreNeedsOf part channels out needs) → HasOutNeeds base m c needs (kind_of machine)
-    memory-out-needs part cut low own machine stands channels needs same are =
-        let outer = memory-part design request m part can.design_is can.keeps apart is-routed low high cut few in
-        let inner = sole stands.alone.piece.memories stands.is_memory.one in
-        let exact = memory-needs design request m part can.design_is can.keeps none low high cut own machine stands outer.0 inner.0 outer.1 inner.1 o (out-low design listed hub m part cut c cut-given) in
+    memory-out-needs part body own machine stands channels needs same are =
+        let exact = memory-needs given m part body own machine stands o (out-low design listed hub m part body.2 c cut-given) in
         subst (λ (t : Machine). HasOutNeeds base m c needs (kind_of t)) (sym stands.is)
-        (record { up = exact.ascending; made = part-made design listed hub m part cut c cut-given channels needs (needs_at (needs_of stands.alone.piece.memories) o) same are exact })
+        (record { up = exact.ascending; made = part-made design listed hub m part body.2 c cut-given channels needs (needs_at (needs_of stands.alone.piece.memories) o) same are exact })
 
   -- a machine whose outs need nothing
   none-needed : (outs : ℕ) (needs : List ℕ) (kind : Kind) → kind.needs ≡ replicate outs [] → needs ≡ [] → HasOutNeeds wires m c needs kind
@@ -177,14 +144,14 @@ module _ (design : Ordered) (request : Request) (models : Models) (can : CanBrid
       let empty : needs_at kind.needs out ≡ [] = ap (λ (l : List (List ℕ)). needs_at l out) is ∙ source-needs outs out in
       record { up = none-up (needs_at kind.needs out) empty; made = none-made (place_in (channels_to wires m)) needs (needs_at kind.needs out) none empty }
 
-  pub out-needs : (columns : List (List ℕ)) (outs : ℕ) (own : Start) (body : Body) (machine : Machine) (channels needs : List ℕ) → IsBody design request models (listed_of design.tree request) (plan_hub design.circuit design.tree request) m body → IsBuilt columns outs own body machine
-      → channels ≡ channels_to (plan_wires design.circuit design.tree request) m → NeedsIn body channels (wire_at (plan_wires design.circuit design.tree request) c).given needs → HasOutNeeds (plan_wires design.circuit design.tree request) m c needs (kind_of machine)
+  pub out-needs : (columns : List (List ℕ)) (outs : ℕ) (own : Start) (body : Body) (machine : Machine) (channels needs : List ℕ) → IsBodyAt given m body → IsBuilt columns outs own body machine
+      → channels ≡ channels_to wires m → NeedsIn body channels (wire_at wires c).given needs → HasOutNeeds wires m c needs (kind_of machine)
   out-needs columns outs own (Cut part) machine channels needs body built same are =
       let high : m < first_source listed = omega (arith, body.0) in
       moved high needs (kind_of machine) (unit-out-needs high part body.1 own machine built channels needs (same ∙ (seat high).into) (λ out lt e. are out lt (e ∙ sym (cut-signal high))))
   out-needs columns outs own (Memory part) machine channels needs body built same are =
       let high = body.1 in
-      moved high needs (kind_of machine) (memory-out-needs high part body.2 body.0 own machine built channels needs (same ∙ (seat high).into) (λ out lt e. are out lt (e ∙ sym (cut-signal high))))
+      moved high needs (kind_of machine) (memory-out-needs high part body own machine built channels needs (same ∙ (seat high).into) (λ out lt e. are out lt (e ∙ sym (cut-signal high))))
   out-needs columns outs own (Source place) machine channels needs body built same none = none-needed (length (replicate outs false)) needs (kind_of machine) (ap (λ (t : Machine). t.needs) built) none
   out-needs columns outs own Tray machine channels needs body built same none = none-needed 0 needs (kind_of machine) (ap (λ (t : Machine). t.needs) built) none
   out-needs columns outs own (Bridge bridge) machine channels needs body built same none = none-needed (length (turned bridge.model bridge.ins bridge.outs).outs) needs (kind_of machine) (ap (λ (t : Machine). t.needs) built) none

@@ -11,33 +11,28 @@ use Rattle.std.proofs.lemmas.List.{get_or-map}
 use Rattle.gg_flat.specs.Circuit.{FlatCircuit}
 use Rattle.gg_flat.specs.Line.{value_at}
 use Rattle.gg_flat.specs.Run.{column, row_at}
-use Rattle.gg_order.specs.Design.{Ordered}
 use Rattle.gg_part.specs.PartRun.{part_rows}
 use Rattle.gg_partfile.specs.declared.request.BridgeEntry.{BridgeEntry}
-use Rattle.gg_partfile.specs.declared.request.Request.{Request}
 use Rattle.gg_cut_plan.specs.declared.plan.Body.{Body}
 use Rattle.gg_cut_plan.specs.declared.plan.Body.TheVariants.{Cut, Memory, Source, Tray, Bridge}
 use Rattle.gg_cut_plan.specs.declared.plan.Channel.{Channel}
 use Rattle.gg_cut_plan.specs.declared.plan.Machine as planned
-use Rattle.gg_cut_plan.specs.declared.plan.Plan.{Plan}
-use Rattle.gg_cut_plan.specs.Bridges.{Models, model_of}
-use Rattle.gg_cut_plan.specs.Direct.{Hub, plan_hub}
-use Rattle.gg_cut_plan.specs.Held.{AreHeldOnce}
-use Rattle.gg_cut_plan.specs.Listed.{first_place, listed_of}
-use Rattle.gg_cut_plan.specs.Plan.{entry_at, IsBody, IsPlan}
-use Rattle.gg_cut_plan.specs.Seated.{Bridges, first_bridge, plan_bridges}
+use Rattle.gg_cut_plan.specs.Bridges.{model_of}
+use Rattle.gg_cut_plan.specs.Listed.{first_place}
+use Rattle.gg_cut_plan.specs.Plan.{entry_at}
+use Rattle.gg_cut_plan.specs.Seated.{first_bridge}
 use Rattle.gg_cut_plan.proofs.PathLemmas.{first_place-Some}
 use Rattle.gg_cut_reference.proofs.FittingLemmas.OpenLemmas.{ins-count}
 use Rattle.gg_cut_reference.specs.Links.{pipes_of, taken_as}
 use Rattle.gg_bits.specs.Lists.{number_or}
 use Rattle.gg_cut_reference.specs.Made.{plan_reference}
 use Rattle.gg_cut_reference.proofs.PlanLemmas.{plan-made}
-use Rattle.gg_cut_reference.specs.whole.Whole.{CanBridge}
 use Rattle.gg_net.specs.Kept.{rows_at}
 use Rattle.gg_net.proofs.StateLemmas.{column-at}
 use Rattle.gg_build.specs.plan.Built.{body_rows, nameless, own_signals, rows_from}
+use Rattle.gg_build.specs.inside.Given.{Given, IsBodyAt, cut_of}
 use Rattle.gg_build.proofs.PlanLemmas.BridgeLemmas.{entry-model}
-use Rattle.gg_build.proofs.PlanLemmas.GivenLemmas.{faultless}
+use Rattle.gg_build.proofs.PlanLemmas.GivenLemmas.{body-at, no-fault}
 use Rattle.gg_build.proofs.PlanLemmas.ShownLemmas.{column-shown, rows-twice}
 
 -- ---- the first signals of rows
@@ -98,70 +93,63 @@ rows-at seen a behind (machine ∷ machines) rows (suc m) lt =
 
 -- ---- a plan
 
-module _ (design : Ordered) (request : Request) (models : Models) (can : CanBridge design request models) (held : AreHeldOnce design.circuit) where
-  abbrev hub : Hub
-  hub = plan_hub design.circuit design.tree request
-
-  abbrev b : Bridges
-  b = plan_bridges design.circuit design.tree request
+module _ (given : Given) where
+  open given use {design, request, models, plan, can}
+  open cut_of design request use {hub, bridges as b}
 
   -- the reference circuit has the design's signals and the pipes
-  pub reference-many : length (plan_reference design request).signals ≡ length design.circuit.signals + length (pipes_of (plan_hub design.circuit design.tree request))
-  reference-many = (plan-made design request can.design_is can.keeps held (faultless design request models can)).signals
+  pub reference-many : length (plan_reference design request).signals ≡ length design.circuit.signals + length (pipes_of hub)
+  reference-many = (plan-made design request can.design_is can.keeps given.held (no-fault given)).signals
 
   -- what a consumer takes is a signal of the reference circuit
-  pub taken-below : (s : ℕ) → s < length design.circuit.signals → taken_as (plan_hub design.circuit design.tree request) s < length (plan_reference design request).signals
+  pub taken-below : (s : ℕ) → s < length design.circuit.signals → taken_as hub s < length (plan_reference design request).signals
   taken-below s lt = by (first_place (λ p. p == s) (pipes_of hub)) refl
     where
       by : (o : Option ℕ) → first_place (λ p. p == s) (pipes_of hub) ≡ o → number_or (length design.circuit.signals) s o < length (plan_reference design request).signals
       by None e = omega (arith, lt, reference-many)
       by (Some k) e = let at = first_place-Some (λ p. p == s) (pipes_of hub) k e in omega (arith, at.within, reference-many)
 
-  module _ (default : ℕ) (plan : Plan) (planned-as : IsPlan design request models default plan) where
-    body : (m : ℕ) → m < length plan.machines → IsBody design request models (listed_of design.tree request) hub m (get_or plan.machines m nameless).body
-    body m lt = (planned-as.machine m nameless lt).body
+  -- a machine that is no bridge has no model
+  none-before : (m : ℕ) (own : Body) → m < first_bridge b → IsBodyAt given m own → own_signals own ≡ 0
+  none-before m (Cut part) lt is = refl
+  none-before m (Memory part) lt is = refl
+  none-before m (Source place) lt is = refl
+  none-before m Tray lt is = refl
+  none-before m (Bridge bridge) lt is = absurd (omega (arith, lt, is.0))
 
-    -- a machine that is no bridge has no model
-    none-before : (m : ℕ) (own : Body) → m < first_bridge b → IsBody design request models (listed_of design.tree request) hub m own → own_signals own ≡ 0
-    none-before m (Cut part) lt is = refl
-    none-before m (Memory part) lt is = refl
-    none-before m (Source place) lt is = refl
-    none-before m Tray lt is = refl
-    none-before m (Bridge bridge) lt is = absurd (omega (arith, lt, is.0))
+  first-models : (m : ℕ) → m ≤ first_bridge b → m ≤ length plan.machines → models_in (take m plan.machines) ≡ 0
+  first-models zero le within = refl
+  first-models (suc m) le within =
+      let lt : m < length plan.machines = omega (arith, within) in
+      let rest = first-models m (omega (arith, le)) (omega (arith, within)) in
+      let none = none-before m (get_or plan.machines m nameless).body (omega (arith, le)) (body-at given m lt) in
+      let next = sum-next (λ (machine : planned.Machine). own_signals machine.body) plan.machines m nameless lt in
+      omega (arith, rest, none, next)
 
-    first-models : (m : ℕ) → m ≤ first_bridge b → m ≤ length plan.machines → models_in (take m plan.machines) ≡ 0
-    first-models zero le within = refl
-    first-models (suc m) le within =
-        let lt : m < length plan.machines = omega (arith, within) in
-        let rest = first-models m (omega (arith, le)) (omega (arith, within)) in
-        let none = none-before m (get_or plan.machines m nameless).body (omega (arith, le)) (body m lt) in
-        let next = sum-next (λ (machine : planned.Machine). own_signals machine.body) plan.machines m nameless lt in
-        omega (arith, rest, none, next)
+  abbrev model_size : BridgeEntry → ℕ
+  model_size entry = length (model_of models entry).signals
 
-    abbrev model_size : BridgeEntry → ℕ
-    model_size entry = length (model_of models entry).signals
+  own-model : (m k : ℕ) (own : Body) → m ≡ first_bridge b + k → IsBodyAt given m own → own_signals own ≡ model_size (entry_at request.bridges k)
+  own-model m k (Cut part) at is = absurd (omega (arith, at, is.0))
+  own-model m k (Memory part) at is = absurd (omega (arith, at, is.1))
+  own-model m k (Source place) at is = absurd (omega (arith, at, is.0, is.1, ins-count design.circuit design.tree request))
+  own-model m k Tray at is = absurd (omega (arith, at, is.1))
+  own-model m k (Bridge bridge) at is =
+      ap (λ (l : FlatCircuit). length l.signals) (sym (entry-model given m bridge is)) ∙ ap (λ j. model_size (entry_at request.bridges j)) (let same : m - first_bridge b ≡ k = omega (arith, at) in same)
 
-    own-model : (m k : ℕ) (own : Body) → m ≡ first_bridge b + k → IsBody design request models (listed_of design.tree request) hub m own → own_signals own ≡ model_size (entry_at request.bridges k)
-    own-model m k (Cut part) at is = absurd (omega (arith, at, is.0))
-    own-model m k (Memory part) at is = absurd (omega (arith, at, is.1))
-    own-model m k (Source place) at is = absurd (omega (arith, at, is.0, is.1, ins-count design.circuit design.tree request))
-    own-model m k Tray at is = absurd (omega (arith, at, is.1))
-    own-model m k (Bridge bridge) at is =
-        ap (λ (l : FlatCircuit). length l.signals) (sym (entry-model design request models can m bridge is.0 is.1)) ∙ ap (λ j. model_size (entry_at request.bridges j)) (let same : m - first_bridge b ≡ k = omega (arith, at) in same)
-
-    pub models-before : (k : ℕ) → first_bridge (plan_bridges design.circuit design.tree request) + k ≤ length plan.machines
-        → models_in (take (first_bridge (plan_bridges design.circuit design.tree request) + k) plan.machines) ≡ sum (map (λ entry. length (model_of models entry).signals) (take k request.bridges))
-    models-before zero within = let same : first_bridge b ≡ first_bridge b + 0 = omega arith in ap (λ m. models_in (take m plan.machines)) (sym same) ∙ first-models (first_bridge b) (omega arith) (omega (arith, within))
-    models-before (suc k) within =
-        let m = first_bridge b + k in
-        let same : first_bridge b + suc k ≡ suc m = omega arith in
-        let lt : m < length plan.machines = omega (arith, within) in
-        let known : k < length request.bridges = omega (arith, lt, planned-as.machine_total) in
-        let rest = models-before k (omega (arith, within)) in
-        let own = own-model m k (get_or plan.machines m nameless).body refl (body m lt) in
-        let next = sum-next (λ (machine : planned.Machine). own_signals machine.body) plan.machines m nameless lt in
-        let after = sum-next model_size request.bridges k (record { name = []; sees = []; drives = [] }) known in
-        ap (λ n. models_in (take n plan.machines)) same ∙ (let sums : models_in (take (suc m) plan.machines) ≡ sum (map model_size (take (suc k) request.bridges)) = omega (arith, rest, own, next, after) in sums)
+  pub models-before : (k : ℕ) → first_bridge b + k ≤ length plan.machines
+      → models_in (take (first_bridge b + k) plan.machines) ≡ sum (map (λ entry. length (model_of models entry).signals) (take k request.bridges))
+  models-before zero within = let same : first_bridge b ≡ first_bridge b + 0 = omega arith in ap (λ m. models_in (take m plan.machines)) (sym same) ∙ first-models (first_bridge b) (omega arith) (omega (arith, within))
+  models-before (suc k) within =
+      let m = first_bridge b + k in
+      let same : first_bridge b + suc k ≡ suc m = omega arith in
+      let lt : m < length plan.machines = omega (arith, within) in
+      let known : k < length request.bridges = omega (arith, lt, given.planned.machine_total) in
+      let rest = models-before k (omega (arith, within)) in
+      let own = own-model m k (get_or plan.machines m nameless).body refl (body-at given m lt) in
+      let next = sum-next (λ (machine : planned.Machine). own_signals machine.body) plan.machines m nameless lt in
+      let after = sum-next model_size request.bridges k (record { name = []; sees = []; drives = [] }) known in
+      ap (λ n. models_in (take n plan.machines)) same ∙ (let sums : models_in (take (suc m) plan.machines) ≡ sum (map model_size (take (suc k) request.bridges)) = omega (arith, rest, own, next, after) in sums)
 
 -- columns of signals that are among the first ones
 pub front-columns : (count : ℕ) (channels : List Channel) (rows : List (List ℕ)) → ((c : ℕ) (any : Channel) → c < length channels → (get_or channels c any).signal < count) → map (λ channel. column rows channel.signal) channels ≡ map (λ channel. column (part_rows (range_with_len 0 count) rows) channel.signal) channels

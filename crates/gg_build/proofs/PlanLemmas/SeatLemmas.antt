@@ -6,7 +6,6 @@ use Rattle.std.proofs.lemmas.List.{length-map}
 use Rattle.gg_flat.specs.Line.{value_at}
 use Rattle.gg_order.specs.Design.{Ordered}
 use Rattle.gg_partfile.specs.declared.request.Request.{Request}
-use Rattle.gg_cut_plan.specs.declared.listed.Listed.{Listed}
 use Rattle.gg_cut_plan.specs.declared.wires.Wire.{Wire as Link}
 use Rattle.gg_cut_plan.specs.Direct.{plan_hub, plan_routes}
 use Rattle.gg_cut_plan.specs.Listed.{listed_of}
@@ -22,6 +21,7 @@ use Rattle.gg_cut_reference.proofs.FittingLemmas.OpenLemmas.{in-place, ins-count
 use Rattle.gg_cut_reference.proofs.FittingLemmas.SeatedLemmas.{before-strict, seat-low, seat-source, seat-tray}
 use Rattle.gg_cut_reference.proofs.FittingLemmas.WireLemmas.{from-kept, to-kept}
 use Rattle.gg_cut_routes.specs.inside.Routes.{AreRoutes}
+use Rattle.gg_build.specs.inside.Given.{cut_of}
 
 -- ---- the channels at their machines' numbers
 
@@ -38,19 +38,12 @@ pub record IsSeatOf (design : Ordered) (request : Request) (m base : ℕ) : Type
   pub from : channels_from (plan_wires design.circuit design.tree request) m ≡ channels_from (plan_routes design.circuit design.tree request) base
 
 module _ (design : Ordered) (request : Request) (routed : AreRoutes design (listed_of design.tree request) (plan_hub design.circuit design.tree request)) where
-  abbrev listed : Listed
-  listed = listed_of design.tree request
+  open cut_of design request use {listed, bridges as b, base as links}
 
-  abbrev b : Bridges
-  b = plan_bridges design.circuit design.tree request
-
-  abbrev links : List Link
-  links = plan_routes design.circuit design.tree request
-
-  pub are : AreBridges (plan_bridges design.circuit design.tree request)
+  pub are : AreBridges b
   are = are-bridges design.circuit (output_count design) listed request.bridges
 
-  pub seat-of : (m base : ℕ) → base < machine_count design.circuit (listed_of design.tree request) → seat_of (plan_bridges design.circuit design.tree request) base ≡ m → m < first_bridge (plan_bridges design.circuit design.tree request) → IsSeatOf design request m base
+  pub seat-of : (m base : ℕ) → base < machine_count design.circuit listed → seat_of b base ≡ m → m < first_bridge b → IsSeatOf design request m base
   seat-of m base known seat kept =
       let is : IsKept b base = omega (arith, seat, kept) in
       record {
@@ -60,10 +53,10 @@ module _ (design : Ordered) (request : Request) (routed : AreRoutes design (list
         from = ap (channels_from (seated b links)) (sym seat) ∙ from-kept b are links routed.ends base known is;
       }
 
-  pub low-seat : (m : ℕ) → m < first_source (listed_of design.tree request) → IsSeatOf design request m m
+  pub low-seat : (m : ℕ) → m < first_source listed → IsSeatOf design request m m
   low-seat m lt = seat-of m m (omega (arith, lt)) (seat-low b m lt) (omega (arith, lt))
 
-  pub source-seat : (m p : ℕ) → p < length design.circuit.ins → undriven (plan_bridges design.circuit design.tree request) p ≡ true → m ≡ first_source (listed_of design.tree request) + count_below (undriven (plan_bridges design.circuit design.tree request)) p → IsSeatOf design request m (first_source (listed_of design.tree request) + p)
+  pub source-seat : (m p : ℕ) → p < length design.circuit.ins → undriven b p ≡ true → m ≡ first_source listed + count_below (undriven b) p → IsSeatOf design request m (first_source listed + p)
   source-seat m p lt kept is = by (b.driver p) refl
     where
       free : is_none (b.driver p) ≡ true
@@ -80,9 +73,9 @@ module _ (design : Ordered) (request : Request) (routed : AreRoutes design (list
     pub base : ℕ
     pub known : base < length design.circuit.ins
     pub input : value_at (open_ins design.circuit request) place ≡ value_at design.circuit.ins base
-    pub seat : IsSeatOf design request m (first_source (listed_of design.tree request) + base)
+    pub seat : IsSeatOf design request m (first_source listed + base)
 
-  pub source-at : (m place : ℕ) → place < length (open_ins design.circuit request) → m ≡ first_source (listed_of design.tree request) + place → IsSourceSeat m place
+  pub source-at : (m place : ℕ) → place < length (open_ins design.circuit request) → m ≡ first_source listed + place → IsSourceSeat m place
   source-at m place lt is =
       let at = before-found (undriven b) b.ins place (omega (arith, lt, ins-count design.circuit design.tree request)) in
       let opened = in-place design.circuit design.tree request at.place at.known at.kept in
@@ -97,11 +90,11 @@ module _ (design : Ordered) (request : Request) (routed : AreRoutes design (list
   pub record IsTraySeat (m : ℕ) : Type 0 where
     pub place : ℕ
     pub known : place < length design.circuit.outs
-    pub kept : unseen (plan_bridges design.circuit design.tree request) place ≡ true
-    pub count : m ≡ first_kept_tray (plan_bridges design.circuit design.tree request) + count_below (unseen (plan_bridges design.circuit design.tree request)) place
-    pub seat : IsSeatOf design request m (first_tray design.circuit (listed_of design.tree request) + place)
+    pub kept : unseen b place ≡ true
+    pub count : m ≡ first_kept_tray b + count_below (unseen b) place
+    pub seat : IsSeatOf design request m (first_tray design.circuit listed + place)
 
-  pub tray-seat : (m : ℕ) → first_kept_tray (plan_bridges design.circuit design.tree request) ≤ m → m < first_bridge (plan_bridges design.circuit design.tree request) → IsTraySeat m
+  pub tray-seat : (m : ℕ) → first_kept_tray b ≤ m → m < first_bridge b → IsTraySeat m
   tray-seat m low high =
       let at = before-found (unseen b) b.outs (m - first_kept_tray b) (omega (arith, low, high)) in
       let is : m ≡ first_kept_tray b + count_below (unseen b) at.place = omega (arith, at.is, low) in

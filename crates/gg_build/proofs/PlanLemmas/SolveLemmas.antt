@@ -1,5 +1,5 @@
 -- The columns of a run of the circuit that the network computes solve the plan.
-use Rattle.std.proofs.Common.{◌≡◌, ℕ, zero, suc, ◌+◌, ◌-◌, ◌<◌, ◌≤◌, List, [], ◌∷◌, ◌++◌, Bool, None, drop, length, map, take, get_or, refl, sym, ◌∙◌, ap, ap₂, subst, arith}
+use Rattle.std.proofs.Common.{◌≡◌, ℕ, zero, suc, ◌+◌, ◌-◌, ◌<◌, List, [], ◌∷◌, ◌++◌, Bool, drop, length, map, take, get_or, refl, sym, ◌∙◌, ap, ap₂, subst, arith}
 use Rattle.std.specs.Prelude.{◌==◌, All, Contains, filter}
 use Rattle.std.specs.List.{range_with_len}
 use Rattle.std.proofs.lemmas.List.{ext_get_or, get_or-map, get_or-take, length-append, length-map}
@@ -8,49 +8,41 @@ use Rattle.std.proofs.lemmas.List.FromFn.{length-range_with_len, get_or-range_wi
 use Rattle.std.proofs.lemmas.Simd.{map-map}
 use Rattle.gg_flat.specs.Circuit.{FlatCircuit}
 use Rattle.gg_flat.specs.Line.{value_at}
-use Rattle.gg_flat.specs.Run.{Start, row_at, column, since}
+use Rattle.gg_flat.specs.Run.{row_at, column, since}
 use Rattle.gg_flat.proofs.ListLemmas.{some-item, filter-cases, range-below, Contains-map}
 use Rattle.gg_order.proofs.RunsLemmas.UniqueLemmas.{IsRunFrom-once}
-use Rattle.gg_order.specs.Design.{Ordered}
-use Rattle.gg_partfile.specs.declared.request.Request.{Request}
 use Rattle.gg_cut_plan.specs.declared.plan.Body.{Body}
 use Rattle.gg_cut_plan.specs.declared.plan.Body.TheVariants.{Cut, Memory, Source, Tray, Bridge}
 use Rattle.gg_cut_plan.specs.declared.plan.BridgeBody.{BridgeBody}
 use Rattle.gg_cut_plan.specs.declared.plan.Channel.{Channel}
-use Rattle.gg_cut_plan.specs.declared.plan.Plan.{Plan}
-use Rattle.gg_cut_plan.specs.declared.listed.Listed.{Listed}
-use Rattle.gg_cut_plan.specs.declared.wires.Wire.{Wire as Link}
-use Rattle.gg_cut_plan.specs.Bridges.{Models}
 use Rattle.gg_cut_plan.specs.Channels.{wire}
-use Rattle.gg_cut_plan.specs.Fault.{first_fault}
-use Rattle.gg_cut_plan.specs.Listed.{listed_of}
 use Rattle.gg_cut_plan.specs.Machines.{first_source, first_tray}
-use Rattle.gg_cut_plan.specs.Direct.{Hub, is_piped, plan_hub, plan_routes}
-use Rattle.gg_cut_plan.specs.Plan.{wire_at as link_at, channels_to, channels_from, IsBody, IsBridgeBody}
-use Rattle.gg_cut_plan.specs.Seated.{first_bridge, first_kept_tray, open_outs, output_count, plan_bridges, plan_wires, unseen}
+use Rattle.gg_cut_plan.specs.Direct.{is_piped}
+use Rattle.gg_cut_plan.specs.Plan.{wire_at as link_at, channels_to, channels_from}
+use Rattle.gg_cut_plan.specs.Seated.{first_kept_tray, open_outs, output_count, unseen}
 use Rattle.gg_bits.specs.Lists.{count_below}
 use Rattle.gg_cut_plan.specs.inside.Solves.{AgreesFrom, Answers, GivesSaid, in_order, lists_of, Solves}
 use Rattle.gg_cut_plan.specs.Solves.{AreRows, columns_of, model_start, stream, streams}
 use Rattle.gg_cut_reference.proofs.FittingLemmas.OpenLemmas.{outs-count, outs-place}
-use Rattle.gg_cut_routes.specs.inside.Routes.{AreRoutes}
 use Rattle.gg_cut_reference.specs.Links.{taken_as}
-use Rattle.gg_cut_reference.specs.Made.{plan_reference}
 use Rattle.gg_cut_reference.specs.inside.Follows.{given_column, taken_column}
-use Rattle.gg_cut_reference.specs.Follows.{plan_token}
 use Rattle.gg_cut_reference.proofs.FollowLemmas.{column-before}
 use Rattle.gg_cut_reference.proofs.MachineLemmas.{map-agree}
-use Rattle.gg_cut_reference.proofs.PlanLemmas.{rows-follow, rows-given, rows-taken, plan-kept}
-use Rattle.gg_cut_reference.specs.whole.Whole.{CanBridge, plan_circuit}
-use Rattle.gg_cut_reference.specs.inside.Whole.{RunsWhole, reference_rows, bridge_signal}
+use Rattle.gg_cut_reference.proofs.PlanLemmas.{rows-follow}
+use Rattle.gg_cut_reference.specs.whole.Whole.{plan_circuit}
+use Rattle.gg_cut_reference.specs.inside.Whole.{bridge_signal}
 use Rattle.gg_cut_reference.proofs.FittingLemmas.LowLemmas.{wire-signal}
-use Rattle.gg_build.specs.plan.Built.{IsGiven, place_in}
+use Rattle.gg_cut_reference.proofs.WholeLemmas.PortLemmas.{plan-outs}
+use Rattle.gg_build.specs.plan.Built.{place_in}
+use Rattle.gg_build.specs.inside.Given.{Given, IsBodyAt, cut_of, run_of}
 use Rattle.gg_build.proofs.PlanLemmas.BridgeLemmas.{bridge-model, bridge-ports, driven_place, entry, gives-port, see-count, seen_place}
 use Rattle.gg_build.proofs.PlanLemmas.BridgeDoLemmas as does
-use Rattle.gg_build.proofs.PlanLemmas.GivenLemmas.{faultless, routed}
+use Rattle.gg_build.proofs.PlanLemmas.GivenLemmas.{is-routed, no-fault, runs-whole}
 use Rattle.gg_build.proofs.PlanLemmas.ListedLemmas as links
 use Rattle.gg_build.proofs.PlanLemmas.BeginLemmas.{one-number}
 use Rattle.gg_build.proofs.PlanLemmas.NumberLemmas.{placed}
-use Rattle.gg_build.proofs.PlanLemmas.RowLemmas.{front-column, front-columns, reference-many, taken-below}
+use Rattle.gg_build.proofs.PlanLemmas.RowLemmas.{front-column, taken-below}
+use Rattle.gg_build.proofs.PlanLemmas.RunLemmas.{below, channel-signal, column-given, column-taken, own-columns, reference-run}
 use Rattle.gg_build.proofs.PlanLemmas.SeatLemmas.{low-seat, seated-many, source-at, tray-seat}
 use Rattle.gg_build.proofs.PlanLemmas.SideLemmas.{tray-gives-none, tray-takes}
 
@@ -72,68 +64,21 @@ none-left : (xs : List ℕ) → length xs ≡ 0 → xs ≡ []
 none-left [] none = refl
 none-left (x ∷ xs) none = absurd (omega (arith, none))
 
-module _ (design : Ordered) (request : Request) (models : Models) (default : ℕ) (plan : Plan) (columns : List (List ℕ)) (n : ℕ) (start : Start) (rows : List (List ℕ)) (given : IsGiven design request models default plan columns n start rows) (runs : RunsWhole design request models start columns n rows) where
-  abbrev listed : Listed
-  listed = listed_of design.tree request
-
-  abbrev hub : Hub
-  hub = plan_hub design.circuit design.tree request
-
-  abbrev all : List Link
-  all = plan_wires design.circuit design.tree request
-
-  -- the channels between the machines of the cut
-  abbrev base : List Link
-  base = plan_routes design.circuit design.tree request
-
-  abbrev can : CanBridge design request models
-  can = given.can
-
-  -- the rows of the reference circuit, and the columns of its inputs
-  abbrev own : List (List ℕ)
-  own = reference_rows design request rows
-
-  abbrev fed : List (List ℕ)
-  fed = map (column rows) (plan_reference design request).ins
-
-  abbrev count : ℕ
-  count = length (plan_reference design request).signals
-
-  run : AreRows (plan_reference design request) start fed n own
-  run = runs.reference
-
-  none : first_fault design request ≡ None
-  none = faultless design request models given.can
-
-  is-routed : AreRoutes design listed hub
-  is-routed = routed design request models given.can
-
-  abbrev token : ℕ → ℕ
-  token s = plan_token design request start.state s
+module _ (given : Given) where
+  open given use {design, request, models, plan, columns, n, start, rows, can}
+  open cut_of design request use {listed, hub, bridges as b, base, wires}
+  open run_of given use {own, fed, count, token}
 
   abbrev lists : List (List ℕ)
   lists = columns_of plan own
 
   abbrev taken : List (List ℕ)
-  taken = streams start.cycle (plan_token design request start.state) plan.channels (columns_of plan own)
+  taken = streams start.cycle token plan.channels (columns_of plan own)
 
-  many : length all ≡ length base
-  many = seated-many (plan_bridges design.circuit design.tree request) base
-
-  same-signal : (c : ℕ) → (link_at all c).signal ≡ (link_at base c).signal
-  same-signal c = wire-signal (plan_bridges design.circuit design.tree request) base c
-
-  below : (s : ℕ) → s < length design.circuit.signals → s < count
-  below s lt = omega (arith, lt, reference-many design request models given.can given.held)
+  many : length wires ≡ length base
+  many = seated-many b base
 
   -- ---- the lists of channels
-
-  channel-signal : (c : ℕ) (any : Channel) → c < length plan.channels → (get_or plan.channels c any).signal ≡ (link_at base c).signal
-  channel-signal c any lt = (given.planned.channel c any lt).signal ∙ same-signal c
-
-  -- columns of channels are those in the reference circuit
-  own-columns : columns_of plan rows ≡ columns_of plan own
-  own-columns = front-columns count plan.channels rows (λ c any lt. subst (λ s. s < count) (sym (channel-signal c any lt)) (below (link_at base c).signal (is-routed.known c (wire 0 0 0) (omega (arith, lt, given.planned.channel_total, many)))))
 
   height : length (columns_of plan own) ≡ length plan.channels
   height = length-map plan.channels (λ (channel : Channel). column own channel.signal)
@@ -142,8 +87,8 @@ module _ (design : Ordered) (request : Request) (models : Models) (default : ℕ
   list-at c lt =
       let known : c < length plan.channels = omega (arith, lt, given.planned.channel_total, many) in
       let some = some-item plan.channels c known in
-      get_or-map (λ (channel : Channel). column own channel.signal) plan.channels c some [] known ∙ ap (column own) (channel-signal c some known)
-      ∙ rows-given design request can.design_is can.keeps given.held none start given.typed fed n own run c lt
+      get_or-map (λ (channel : Channel). column own channel.signal) plan.channels c some [] known ∙ ap (column own) (channel-signal given c some known)
+      ∙ column-given given c lt
 
   stream-at : (c : ℕ) → c < length base → take n (get_or taken c []) ≡ taken_column hub start n own c
   stream-at c lt =
@@ -151,78 +96,83 @@ module _ (design : Ordered) (request : Request) (models : Models) (default : ℕ
       let some = some-item plan.channels c known in
       let channel = get_or plan.channels c some in
       let at = given.planned.channel c some known in
-      ap (take n) (streams-at start.cycle (plan_token design request start.state) plan.channels lists c some height known)
-      ∙ ap (λ s. take n (stream start.cycle (token s) channel.pipe (get_or lists c []))) (channel-signal c some known)
-      ∙ ap₂ (λ piped l. take n (stream start.cycle (token (link_at base c).signal) piped l)) (at.pipe ∙ ap (is_piped design.circuit request) (same-signal c)) (list-at c lt)
+      ap (take n) (streams-at start.cycle token plan.channels lists c some height known)
+      ∙ ap (λ s. take n (stream start.cycle (token s) channel.pipe (get_or lists c []))) (channel-signal given c some known)
+      ∙ ap₂ (λ piped l. take n (stream start.cycle (token (link_at base c).signal) piped l)) (at.pipe ∙ ap (is_piped design.circuit request) (wire-signal b base c)) (list-at c lt)
 
-  taken-lists : (m : ℕ) → map (take n) (lists_of taken (channels_to all m)) ≡ map (taken_column hub start n own) (channels_to all m)
+  -- what a machine takes, and what it gives
+  abbrev taken_by : ℕ → List (List ℕ)
+  taken_by m = map (taken_column hub start n own) (channels_to wires m)
+
+  abbrev given_by : ℕ → List (List ℕ)
+  given_by m = map (given_column hub own) (channels_from wires m)
+
+  taken-lists : (m : ℕ) → map (take n) (lists_of taken (channels_to wires m)) ≡ taken_by m
   taken-lists m =
-      map-map (take n) (λ c. get_or taken c []) (channels_to all m)
-      ∙ chosen-agree (λ c. take n (get_or taken c [])) (taken_column hub start n own) (λ c. (link_at all c).consumer == m) (length all) (λ c lt. stream-at c (omega (arith, lt, many)))
+      map-map (take n) (λ c. get_or taken c []) (channels_to wires m)
+      ∙ chosen-agree (λ c. take n (get_or taken c [])) (taken_column hub start n own) (λ c. (link_at wires c).consumer == m) (length wires) (λ c lt. stream-at c (omega (arith, lt, many)))
 
-  given-lists : (m : ℕ) → lists_of lists (channels_from all m) ≡ map (given_column hub own) (channels_from all m)
-  given-lists m = chosen-agree (λ c. get_or lists c []) (given_column hub own) (λ c. (link_at all c).producer == m) (length all) (λ c lt. list-at c (omega (arith, lt, many)))
+  given-lists : (m : ℕ) → lists_of lists (channels_from wires m) ≡ given_by m
+  given-lists m = chosen-agree (λ c. get_or lists c []) (given_column hub own) (λ c. (link_at wires c).producer == m) (length wires) (λ c lt. list-at c (omega (arith, lt, many)))
 
   -- what a channel's consumer takes is the column of the signal by which it is taken
   taken-is : (c : ℕ) → c < length base → taken_column hub start n own c ≡ column own (taken_as hub (link_at base c).signal)
   taken-is c lt =
       let s = (link_at base c).signal in
-      ap (λ l. take n (stream start.cycle (token s) (is_piped design.circuit request s) l)) (sym (rows-given design request can.design_is can.keeps given.held none start given.typed fed n own run c lt))
-      ∙ sym (rows-taken design request can.design_is can.keeps given.held none start given.typed fed n own run c lt)
-      ∙ ap (column own) (plan-kept design request can.design_is can.keeps given.held none c lt)
+      ap (λ l. take n (stream start.cycle (token s) (is_piped design.circuit request s) l)) (sym (column-given given c lt)) ∙ column-taken given c lt
 
   taken-column : (c : ℕ) → c < length base → taken_column hub start n own c ≡ column rows (taken_as hub (link_at base c).signal)
-  taken-column c lt = taken-is c lt ∙ sym (front-column count rows (taken_as hub (link_at base c).signal) (taken-below design request models can given.held (link_at base c).signal (is-routed.known c (wire 0 0 0) lt)))
+  taken-column c lt = taken-is c lt ∙ sym (front-column count rows (taken_as hub (link_at base c).signal) (taken-below given (link_at base c).signal ((is-routed given).known c (wire 0 0 0) lt)))
 
   -- ---- machines without a bridge
 
-  source-gives : (m place : ℕ) → IsBody design request models listed hub m (Source place) → All (AgreesFrom start n (get_or columns place [])) (map (given_column hub own) (channels_from all m))
+  source-gives : (m place : ℕ) → IsBodyAt given m (Source place) → All (AgreesFrom start n (get_or columns place [])) (given_by m)
   source-gives m place body =
-      let source = source-at design request is-routed m place body.0 body.1 in
+      let source = source-at design request (is-routed given) m place body.0 body.1 in
       let q = first_source listed + source.base in
       let s = value_at design.circuit.ins source.base in
-      let inside = below s (can.design_is.formed.ins source.base source.known).0 in
+      let inside = below given s (can.design_is.formed.ins source.base source.known).0 in
       let from = channels_from base q in
       subst (λ (l : List ℕ). All (AgreesFrom start n (get_or columns place [])) (map (given_column hub own) l)) (sym source.seat.from)
       (All-map (AgreesFrom start n (get_or columns place [])) (given_column hub own) from (λ k d lt t le less.
       let c = get_or from k d in
-      let is : (link_at base c).given ≡ s = (is-routed.sources source.base source.known).all (link_at base c).given (Contains-map (λ j. (link_at base j).given) from c (Contains-get_or from k d lt)) in
+      let is : (link_at base c).given ≡ s = ((is-routed given).sources source.base source.known).all (link_at base c).given (Contains-map (λ j. (link_at base j).given) from c (Contains-get_or from k d lt)) in
       ap (λ (l : List ℕ). value_at l t) (ap (column own) is ∙ sym (front-column count rows s inside) ∙ ap (column rows) (sym source.input))
-      ∙ runs.fed place t body.0 le less))
+      ∙ (runs-whole given).fed place t body.0 le less))
 
-  cut-answers : (m : ℕ) (part : Body) → m < first_source listed → Answers part start n columns (map (taken_column hub start n own) (channels_to base m)) (map (given_column hub own) (channels_from base m)) → Answers part start n columns (map (taken_column hub start n own) (channels_to all m)) (map (given_column hub own) (channels_from all m))
+  cut-answers : (m : ℕ) (part : Body) → m < first_source listed → Answers part start n columns (map (taken_column hub start n own) (channels_to base m)) (map (given_column hub own) (channels_from base m)) → Answers part start n columns (taken_by m) (given_by m)
   cut-answers m part lt is =
-      let seat = low-seat design request is-routed m lt in
-      subst (λ (l : List ℕ). Answers part start n columns (map (taken_column hub start n own) l) (map (given_column hub own) (channels_from all m))) (sym seat.into)
+      let seat = low-seat design request (is-routed given) m lt in
+      subst (λ (l : List ℕ). Answers part start n columns (map (taken_column hub start n own) l) (given_by m)) (sym seat.into)
       (subst (λ (l : List ℕ). Answers part start n columns (map (taken_column hub start n own) (channels_to base m)) (map (given_column hub own) l)) (sym seat.from) is)
 
   -- ---- bridges
 
-  module _ (m : ℕ) (bridge : BridgeBody) (first : first_bridge (plan_bridges design.circuit design.tree request) ≤ m) (body : IsBridgeBody design request models all m (m - first_bridge (plan_bridges design.circuit design.tree request)) bridge) where
+  module _ (m : ℕ) (bridge : BridgeBody) (body : IsBodyAt given m (Bridge bridge)) where
     abbrev to : List ℕ
-    to = channels_to all m
+    to = channels_to wires m
 
     abbrev from : List ℕ
-    from = channels_from all m
+    from = channels_from wires m
 
     abbrev model : FlatCircuit
     model = bridge.model
 
     abbrev place_of : ℕ → ℕ
-    place_of c = seen_place design request models can m bridge first body c
+    place_of c = seen_place given m bridge body c
 
     -- the rows of the model, and what it sees
     abbrev mine : List (List ℕ)
-    mine = does.own design request models can given.held start columns n rows runs m bridge first body
+    mine = does.own given m bridge body
 
     abbrev sees : List (List ℕ)
-    sees = does.seen_columns design request models can given.held start columns n rows runs m bridge first body
+    sees = does.seen_columns given m bridge body
 
     ins-low : (c : ℕ) → Contains to c → c < length base
-    ins-low c h = omega (arith, range-below (length all) c (filter-cases (λ d. (link_at all d).consumer == m) (range_with_len 0 (length all)) c h).among, many)
+    ins-low c h = omega (arith, range-below (length wires) c (filter-cases (λ d. (link_at wires d).consumer == m) (range_with_len 0 (length wires)) c h).among, many)
 
     outs-low : (c : ℕ) → Contains from c → c < length base
-    outs-low c h = omega (arith, range-below (length all) c (filter-cases (λ d. (link_at all d).producer == m) (range_with_len 0 (length all)) c h).among, many)
+    outs-low c h = omega (arith, range-below (length wires) c (filter-cases (λ d. (link_at wires d).producer == m) (range_with_len 0 (length wires)) c h).among, many)
 
     -- the columns of what it takes, in its model's order, are those of what it sees
     in-columns : in_order bridge.ins (map (taken_column hub start n own) to) ≡ sees
@@ -230,71 +180,71 @@ module _ (design : Ordered) (request : Request) (models : Models) (default : ℕ
         let places = bridge.ins in
         let ins = map (taken_column hub start n own) to in
         let pick : ℕ → List ℕ = λ p. get_or ins (place_in places p) [] in
-        let ports = bridge-ports design request models can m bridge first body in
+        let ports = bridge-ports given m bridge body in
         let long = length-map (range_with_len 0 (length places)) pick in
         let range = length-range_with_len 0 (length places) in
-        let seen = length-map (entry design request models can m bridge first body).sees (λ name. column rows (bridge_signal design request name)) in
+        let seen = length-map (entry given m bridge body).sees (λ name. column rows (bridge_signal design request name)) in
         let total : length places ≡ length model.ins = ports.takes.total in
-        ext_get_or [] (map pick (range_with_len 0 (length places))) sees (omega (arith, long, range, seen, total, see-count design request models can m bridge first body))
+        ext_get_or [] (map pick (range_with_len 0 (length places))) sees (omega (arith, long, range, seen, total, see-count given m bridge body))
         (λ p lt.
         let low : p < length places = omega (arith, lt, long, range) in
         let at = placed places p (ports.takes.every p (omega (arith, low, total))) in
         let i = place_in places p in
-        let inside : i < length to = omega (arith, at.within, ap length body.ins, length-map to place_of) in
+        let inside : i < length to = omega (arith, at.within, ap length body.1.ins, length-map to place_of) in
         let c = value_at to i in
         let there = Contains-get_or to i 0 inside in
-        let is : place_of c ≡ p = sym (get_or-map place_of to i 0 0 inside) ∙ ap (λ (l : List ℕ). value_at l i) (sym body.ins) ∙ at.is in
+        let is : place_of c ≡ p = sym (get_or-map place_of to i 0 0 inside) ∙ ap (λ (l : List ℕ). value_at l i) (sym body.1.ins) ∙ at.is in
         get_or-map pick (range_with_len 0 (length places)) p 0 [] (omega (arith, low, range))
         ∙ ap pick (get_or-range_with_len 0 (length places) p 0 low ∙ (let same : 0 + p ≡ p = omega arith in same))
         ∙ get_or-map (taken_column hub start n own) to i 0 [] inside
         ∙ taken-column c (ins-low c there)
-        ∙ sym (does.seen-column design request models can given.held start columns n rows runs m bridge first body c there)
+        ∙ sym (does.seen-column given m bridge body c there)
         ∙ ap (λ k. get_or sees k []) is)
 
     bridge-gives : (others : List (List ℕ)) → AreRows model (model_start model start) sees n others → map (λ place. column others (value_at model.outs place)) bridge.outs ≡ map (given_column hub own) from
     bridge-gives others other =
-        let is_model = bridge-model design request models can m bridge first body in
-        let own_run = does.model-run design request models can given.held start columns n rows runs m bridge first body in
+        let is_model = bridge-model given m bridge body in
+        let own_run = does.model-run given m bridge body in
         let same = IsRunFrom-once model is_model.order (model_start model start) sees (since start.cycle n) (drop start.cycle others) (drop start.cycle mine) is_model.ordered other.run own_run.run in
         let say : ℕ → List ℕ = λ place. column others (value_at model.outs place) in
-        let place : ℕ → ℕ = λ c. driven_place design request models can m bridge first body c in
-        ap (map say) body.outs
+        let place : ℕ → ℕ = λ c. driven_place given m bridge body c in
+        ap (map say) body.1.outs
         ∙ map-map say place from
         ∙ map-agree (λ c. say (place c)) (given_column hub own) from (λ i lt.
         let c = value_at from i in
         let there = Contains-get_or from i 0 lt in
-        let port = gives-port design request models can m bridge first body c there in
+        let port = gives-port given m bridge body c there in
         let s = (link_at base c).given in
-        let low : s < count = below s (subst (λ j. j < length design.circuit.signals) (sym port.plain) port.signal) in
+        let low : s < count = below given s (subst (λ j. j < length design.circuit.signals) (sym port.plain) port.signal) in
         column-before model (model_start model start) sees n others mine other own_run same (value_at model.outs (place c))
-        ∙ does.driven-column design request models can given.held start columns n rows runs m bridge first body c there
+        ∙ does.driven-column given m bridge body c there
         ∙ front-column count rows s low)
 
     bridge-answers : GivesSaid bridge start n (map (taken_column hub start n own) to) (map (given_column hub own) from)
     bridge-answers =
         record {
           rows = mine;
-          run = subst (λ (l : List (List ℕ)). AreRows model (model_start model start) l n mine) (sym in-columns) (does.model-run design request models can given.held start columns n rows runs m bridge first body);
+          run = subst (λ (l : List (List ℕ)). AreRows model (model_start model start) l n mine) (sym in-columns) (does.model-run given m bridge body);
           gives = λ others other. bridge-gives others (subst (λ (l : List (List ℕ)). AreRows model (model_start model start) l n others) in-columns other);
         }
 
   -- ---- all machines
 
-  answers : (m : ℕ) (body : Body) → IsBody design request models listed hub m body → Answers body start n columns (map (taken_column hub start n own) (channels_to all m)) (map (given_column hub own) (channels_from all m))
+  answers : (m : ℕ) (body : Body) → IsBodyAt given m body → Answers body start n columns (taken_by m) (given_by m)
   answers m (Cut part) body =
-      let follows = rows-follow design request can.design_is can.keeps given.held none start given.typed fed n own run m part body.1 in
+      let follows = rows-follow design request can.design_is can.keeps given.held (no-fault given) start given.typed fed n own (reference-run given) m part body.1 in
       cut-answers m (Cut part) (omega (arith, body.0)) (record { rows = follows.own; run = follows.run; gives = follows.gives })
   answers m (Memory part) body =
-      let follows = rows-follow design request can.design_is can.keeps given.held none start given.typed fed n own run m part body.2 in
+      let follows = rows-follow design request can.design_is can.keeps given.held (no-fault given) start given.typed fed n own (reference-run given) m part body.2 in
       cut-answers m (Memory part) body.1 (record { rows = follows.own; run = follows.run; gives = follows.gives })
   answers m (Source place) body = source-gives m place body
   answers m Tray body =
-      let tray = tray-seat design request is-routed m body.0 body.1 in
+      let tray = tray-seat design request (is-routed given) m body.0 body.1 in
       let seat = tray.seat in
-      ap (map (given_column hub own)) (none-left (channels_from all m) (ap length seat.from ∙ tray-gives-none design listed hub is-routed (first_tray design.circuit listed + tray.place) (omega arith) seat.known))
-  answers m (Bridge bridge) body = bridge-answers m bridge body.0 body.1
+      ap (map (given_column hub own)) (none-left (channels_from wires m) (ap length seat.from ∙ tray-gives-none design listed hub (is-routed given) (first_tray design.circuit listed + tray.place) (omega arith) seat.known))
+  answers m (Bridge bridge) body = bridge-answers m bridge body
 
-  own-solves : Solves plan start (plan_token design request start.state) columns n (columns_of plan own)
+  own-solves : Solves plan start token columns n (columns_of plan own)
   own-solves =
       record {
         count = height;
@@ -304,52 +254,51 @@ module _ (design : Ordered) (request : Request) (models : Models) (default : ℕ
             let ins = ap (λ channels. map (take n) (lists_of taken channels)) at.ins ∙ taken-lists m in
             let outs = ap (lists_of lists) at.outs ∙ given-lists m in
             subst (λ (l : List (List ℕ)). Answers machine.body start n columns l (lists_of lists machine.outs)) (sym ins)
-            (subst (Answers machine.body start n columns (map (taken_column hub start n own) (channels_to all m))) (sym outs)
+            (subst (Answers machine.body start n columns (taken_by m)) (sym outs)
             (answers m machine.body at.body));
       }
 
-  pub plan-solves : Solves plan start (plan_token design request start.state) columns n (columns_of plan rows)
-  plan-solves = subst (Solves plan start (plan_token design request start.state) columns n) (sym own-columns) own-solves
+  pub plan-solves : Solves plan start token columns n (columns_of plan rows)
+  plan-solves = subst (Solves plan start token columns n) (sym (own-columns given)) own-solves
 
   -- ---- channels and outputs, by cycle
 
   -- what a channel's consumer takes is the column of the signal by which it is taken
-  pub plan-list : (c : ℕ) → c < length (plan_routes design.circuit design.tree request) → take n (get_or (streams start.cycle (plan_token design request start.state) plan.channels (columns_of plan rows)) c [])
-      ≡ column rows (taken_as (plan_hub design.circuit design.tree request) (link_at (plan_routes design.circuit design.tree request) c).signal)
-  plan-list c lt = ap (λ (l : List (List ℕ)). take n (get_or (streams start.cycle (plan_token design request start.state) plan.channels l) c [])) own-columns ∙ stream-at c lt ∙ taken-column c lt
+  pub plan-list : (c : ℕ) → c < length base → take n (get_or (streams start.cycle token plan.channels (columns_of plan rows)) c [])
+      ≡ column rows (taken_as hub (link_at base c).signal)
+  plan-list c lt = ap (λ (l : List (List ℕ)). take n (get_or (streams start.cycle token plan.channels l) c [])) (own-columns given) ∙ stream-at c lt ∙ taken-column c lt
 
   -- the top's outputs that no bridge sees, and the stops
   abbrev pub kept_outs : List ℕ
   kept_outs = open_outs design.circuit (output_count design) request ++ drop (output_count design) design.circuit.outs
 
   -- what a tray takes is the column of its output in the circuit that the network computes
-  pub plan-output : (plan_circuit design request models).outs ≡ map (taken_as (plan_hub design.circuit design.tree request)) kept_outs → (k c : ℕ) → k < length kept_outs → c < length (plan_routes design.circuit design.tree request) → (link_at (plan_routes design.circuit design.tree request) c).signal ≡ value_at kept_outs k
-      → take n (get_or (streams start.cycle (plan_token design request start.state) plan.channels (columns_of plan rows)) c []) ≡ column rows (value_at (plan_circuit design request models).outs k)
-  plan-output outs k c low lt same = plan-list c lt ∙ ap (column rows) (ap (taken_as hub) same ∙ sym (get_or-map (taken_as hub) kept_outs k 0 0 low) ∙ ap (λ (l : List ℕ). value_at l k) (sym outs))
+  plan-output : (k c : ℕ) → k < length kept_outs → c < length base → (link_at base c).signal ≡ value_at kept_outs k
+      → take n (get_or (streams start.cycle token plan.channels (columns_of plan rows)) c []) ≡ column rows (value_at (plan_circuit design request models).outs k)
+  plan-output k c low lt same = plan-list c lt ∙ ap (column rows) (ap (taken_as hub) same ∙ sym (get_or-map (taken_as hub) kept_outs k 0 0 low) ∙ ap (λ (l : List ℕ). value_at l k) (sym (plan-outs design request models can)))
 
-  pub plan-output-value : (plan_circuit design request models).outs ≡ map (taken_as (plan_hub design.circuit design.tree request)) kept_outs → (k c t : ℕ) → k < length kept_outs → c < length (plan_routes design.circuit design.tree request) → (link_at (plan_routes design.circuit design.tree request) c).signal ≡ value_at kept_outs k → t < n
-      → value_at (get_or (streams start.cycle (plan_token design request start.state) plan.channels (columns_of plan rows)) c []) t ≡ value_at (row_at rows t) (value_at (plan_circuit design request models).outs k)
-  plan-output-value outs k c t low lt same inside =
-      sym (get_or-take n (get_or (streams start.cycle (plan_token design request start.state) plan.channels (columns_of plan rows)) c []) t 0 inside) ∙ ap (λ (l : List ℕ). value_at l t) (plan-output outs k c low lt same)
+  pub plan-output-value : (k c t : ℕ) → k < length kept_outs → c < length base → (link_at base c).signal ≡ value_at kept_outs k → t < n
+      → value_at (get_or (streams start.cycle token plan.channels (columns_of plan rows)) c []) t ≡ value_at (row_at rows t) (value_at (plan_circuit design request models).outs k)
+  plan-output-value k c t low lt same inside =
+      sym (get_or-take n (get_or (streams start.cycle token plan.channels (columns_of plan rows)) c []) t 0 inside) ∙ ap (λ (l : List ℕ). value_at l t) (plan-output k c low lt same)
       ∙ get_or-map (λ (row : List ℕ). value_at row (value_at (plan_circuit design request models).outs k)) rows t [] 0 (omega (arith, inside, given.run.count))
 
   -- The tray of the output at a place among those that are left takes one channel, which carries the output.
   pub record IsTrayOf (k : ℕ) : Type 0 where
     pub channel : ℕ
-    pub known : channel < length (plan_routes design.circuit design.tree request)
-    pub into : channels_to (plan_wires design.circuit design.tree request) (first_kept_tray (plan_bridges design.circuit design.tree request) + k) ≡ channel ∷ []
-    pub signal : (link_at (plan_routes design.circuit design.tree request) channel).signal ≡ value_at kept_outs k
+    pub known : channel < length base
+    pub into : channels_to wires (first_kept_tray b + k) ≡ channel ∷ []
+    pub signal : (link_at base channel).signal ≡ value_at kept_outs k
 
   pub plan-tray : (k : ℕ) → k < length kept_outs → IsTrayOf k
   plan-tray k lt =
-      let b = plan_bridges design.circuit design.tree request in
       let opened = open_outs design.circuit (output_count design) request in
       let total = outs-count design.circuit design.tree request in
-      let tray = tray-seat design request is-routed (first_kept_tray b + k) (omega arith) (omega (arith, lt, total, length-append opened (drop (output_count design) design.circuit.outs))) in
+      let tray = tray-seat design request (is-routed given) (first_kept_tray b + k) (omega arith) (omega (arith, lt, total, length-append opened (drop (output_count design) design.circuit.outs))) in
       let seat = tray.seat in
       let q = first_tray design.circuit listed + tray.place in
       let to = channels_to base q in
-      let one = tray-takes design listed hub is-routed q (omega arith) seat.known in
+      let one = tray-takes design listed hub (is-routed given) q (omega arith) seat.known in
       let c = value_at to 0 in
       let has = Contains-get_or to 0 0 (omega (arith, one)) in
       let at = outs-place design.circuit design.tree request tray.place tray.known tray.kept in
@@ -358,5 +307,5 @@ module _ (design : Ordered) (request : Request) (models : Models) (default : ℕ
         channel = c;
         known = (links.taken-is base q c has).known;
         into = seat.into ∙ one-number to one;
-        signal = (is-routed.trays tray.place tray.known).all (link_at base c).signal (Contains-map (λ d. (link_at base d).signal) to c has) ∙ sym at.is ∙ ap (value_at kept_outs) place;
+        signal = ((is-routed given).trays tray.place tray.known).all (link_at base c).signal (Contains-map (λ d. (link_at base d).signal) to c has) ∙ sym at.is ∙ ap (value_at kept_outs) place;
       }

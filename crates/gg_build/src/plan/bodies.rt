@@ -8,8 +8,6 @@ ghost use Rattle.gg_bridge.specs.Model.{IsModel};
 ghost use Rattle.gg_bridge.specs.inside.Hosted.{ArePorts};
 ghost use Rattle.gg_build.specs.inside.Each.{OfEachBridge, OfEachSource, OfEachTwoBridges, OfEachUnit};
 
-use gg_cut_reference::circuit_has_ports;
-
 /// The part of a unit is well formed, and its signals are in an order of evaluation.
 pub fn unit_is_ordered()
     ensures formed { OfEachUnit (λ part. IsWellFormed part.piece) }
@@ -21,9 +19,7 @@ pub fn source_has_column()
     ensures some { OfEachSource (λ columns place channels. 0 < length channels) }
     ensures few { OfEachSource (λ columns place channels. length channels < 2 ^ 32) }
     ensures known { OfEachSource (λ columns place channels. place < length columns) }
-{
-    circuit_has_ports();
-}
+{}
 
 /// A machine can run a bridge's model, and the machine's ins and outs are all in-signals of the model and some of its out-signals. The bridge has the
 /// name and the model of its entry. No two bridges of a plan have one name.

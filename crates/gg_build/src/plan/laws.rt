@@ -19,8 +19,6 @@ ghost use Rattle.gg_build.specs.plan.Built.{wires_of_plan};
 ghost use Rattle.gg_build.specs.inside.Each.{OfEachNetwork, ZerosAreTheStart};
 ghost use Rattle.gg_build.specs.plan.Each.{OfEachPlan, OfEachStarted};
 
-use gg_cut_reference::circuit_runs;
-
 /// Each machine of the network has an in for each channel that the plan's machine takes, and an out for each channel
 /// that it gives. The channels are connected to them in the plan's order. Numbers of 32 bits suffice for ins and outs.
 pub fn plan_is_listed()
@@ -67,6 +65,4 @@ pub fn all_begin_with_zeros()
 pub fn columns_solve()
     ensures { OfEachPlan (λ design request models default plan columns n start rows.
         Solves plan start (plan_token design request start.state) columns n (columns_of plan rows)) }
-{
-    circuit_runs();
-}
+{}
