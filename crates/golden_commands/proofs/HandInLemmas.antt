@@ -12,7 +12,8 @@ use Rattle.std.proofs.lemmas.List.Sums.{fold-append}
 use Rattle.gg_flat.specs.Circuit.{FlatCircuit}
 use Rattle.gg_flat.specs.State.{State, opening}
 use Rattle.golden_commands.specs.Handed.{IsBridgeName, is_word_byte, most_signals}
-use Rattle.golden_commands.specs.inside.HandFault.{AreCounted, hand_fault, has_name, is_taken, signals_of}
+use Rattle.golden_commands.specs.Bridges.{CanHandIn}
+use Rattle.golden_commands.specs.inside.HandFault.{hand_fault, has_name, is_taken, signals_of}
 use Rattle.golden_commands.specs.declared.bridges.HandFault.{HandFault}
 
 -- a name that passes the test is one
@@ -58,19 +59,16 @@ module _ {B : Type 0} (piece : B → FlatCircuit) (state : B → State) where
       (not-false (has_name name) named.0, free.0, at-most _ _ few.0)
 
   -- the bridges with it can be handed in
-  pub counted-push : (bridges more : List (List ℕ × B)) (name : List ℕ) (bridge : B) (signals total : ℕ) → more ≡ bridges ++ (name, bridge) ∷ [] → AreCounted piece state bridges signals → hand_fault piece bridges name bridge ≡ None
-      → state bridge ≡ opening (piece bridge) → total ≡ signals_of piece bridges + length (piece bridge).signals → AreCounted piece state more total
-  counted-push bridges more name bridge signals total grown counted none zeros sums =
+  pub can-push : (bridges more : List (List ℕ × B)) (name : List ℕ) (bridge : B) → more ≡ bridges ++ (name, bridge) ∷ [] → CanHandIn piece state bridges → hand_fault piece bridges name bridge ≡ None
+      → state bridge ≡ opening (piece bridge) → CanHandIn piece state more
+  can-push bridges more name bridge grown can none zeros =
       let own = passed bridges name bridge none in
-      let count : total ≡ signals_of piece (bridges ++ (name, bridge) ∷ []) = sums ∙ sym (signals-push bridges (name, bridge)) in
-      subst (λ b. AreCounted piece state b total) (sym grown)
+      let count : signals_of piece (bridges ++ (name, bridge) ∷ []) ≡ signals_of piece bridges + length (piece bridge).signals = signals-push bridges (name, bridge) in
+      subst (CanHandIn piece state) (sym grown)
       (record {
-        can = record {
-          names = All-push (λ (pair : List ℕ × B). IsBridgeName pair.0) bridges (name, bridge) counted.can.names (name-is name own.0);
-          apart = subst (AllPairs (λ a b. a ≢ b)) (sym (map-append (λ (pair : List ℕ × B). pair.0) bridges ((name, bridge) ∷ [])))
-              (all_pairs_push (λ a b. a ≢ b) (map (λ (pair : List ℕ × B). pair.0) bridges) name counted.can.apart (fresh bridges name bridge own.1));
-          zeros = All-push (λ (pair : List ℕ × B). state pair.1 ≡ opening (piece pair.1)) bridges (name, bridge) counted.can.zeros zeros;
-          few = omega (arith, own.2, sums, count);
-        };
-        count = count;
+        names = All-push (λ (pair : List ℕ × B). IsBridgeName pair.0) bridges (name, bridge) can.names (name-is name own.0);
+        apart = subst (AllPairs (λ a b. a ≢ b)) (sym (map-append (λ (pair : List ℕ × B). pair.0) bridges ((name, bridge) ∷ [])))
+            (all_pairs_push (λ a b. a ≢ b) (map (λ (pair : List ℕ × B). pair.0) bridges) name can.apart (fresh bridges name bridge own.1));
+        zeros = All-push (λ (pair : List ℕ × B). state pair.1 ≡ opening (piece pair.1)) bridges (name, bridge) can.zeros zeros;
+        few = omega (arith, own.2, count);
       })

@@ -1,17 +1,16 @@
-//! `Bridges`: bridges to hand in, each with its name.
-ghost use Rattle.std.specs.Prelude.{◌≡◌, ◌+◌, ◌++◌, ◌∷◌, [], IfOk, MatchResult, length};
+//! A bridge is handed in with others, by its name.
+ghost use Rattle.std.specs.Prelude.{◌≡◌, ◌≤◌, ◌++◌, ◌∷◌, [], MatchResult};
 ghost use Rattle.std.specs.List.{list_all};
 ghost use Rattle.gg_bits.specs.inside.Firsts.{Tells};
 ghost use Rattle.gg_flat.specs.State.{opening};
-ghost use Rattle.golden_commands.specs.Handed.{is_word_byte};
+ghost use Rattle.golden_commands.specs.Handed.{is_word_byte, most_signals};
 ghost use Rattle.golden_commands.specs.Bridges.{CanHandIn};
 ghost use Rattle.golden_commands.specs.declared.bridges.HandFault.TheVariants.{NoMemory};
 ghost use Rattle.golden_commands.specs.inside.HandFault.{hand_fault, has_name, is_taken, said_by, signals_of};
 
 use gg_bits::Name;
 use gg_bridge::Bridge;
-use std::alloc::{AllocError, Global};
-use std::marker::Model;
+use std::alloc::{AllocError, AllocFailed, Global};
 use thiserror::Error;
 
 /// The most signals that the models of all bridges that are handed in may have together.
@@ -42,29 +41,12 @@ impl From<AllocError> for HandFault {
     }
 }
 
-/// Bridges to hand in, each with its name. They meet all that `golden_with` requires of bridges (`CanHandIn`).
-pub struct Bridges<B: Bridge + Drop> {
-    named: Vec<(Name, B)>,
-    // How many signals their models have together.
-    signals: u64,
-}
+impl<T: Drop> From<AllocFailed<T>> for HandFault {
+    ghost from_gives = { λ _ fault. fault ≡ NoMemory };
 
-impl<B: Bridge + Drop> Drop for Bridges<B> {
-    fn drop(self) {
-        let Self { named, signals: _ } = self;
-        drop(named);
+    fn from(_error: AllocFailed<T>) -> HandFault {
+        HandFault::NoMemory
     }
-}
-
-impl<B: Bridge + Drop> Model for Bridges<B> {
-    ghost use Rattle.std.specs.Prelude.{ℕ, List};
-    ghost use Rattle.golden_commands.specs.inside.HandFault.{AreCounted};
-
-    ghost Value = { List (List ℕ × B) };
-
-    ghost view = { λ bridges. bridges.named.items };
-
-    ghost invariant = { λ bridges. AreCounted B.piece B.state bridges.named.items bridges.signals };
 }
 
 // An ASCII letter, a digit or `_`.
@@ -89,70 +71,71 @@ fn is_name(name: &str) -> bool
     !bytes.is_empty() && are_word_bytes(bytes)
 }
 
-impl<B: Bridge + Drop> Bridges<B> {
-    /// No bridges.
-    pub fn new(alloc: Global) -> Bridges<B>
-        ensures { result ≡ [] }
-    {
-        Bridges {
-            named: Vec::new(alloc),
-            signals: 0,
-        }
-    }
+// Whether a bridge has this name.
+fn is_taken<B>(bridges: &[(Name, B)], name: &str) -> bool
+    ensures { result ≡ is_taken bridges.now name.now }
+{
+    bridges.iter().any(|pair| pair.0.as_str() == name)
+}
 
-    // Whether a bridge has this name.
-    fn has(&self, name: &str) -> bool
-        ensures { result ≡ is_taken self.now name.now }
-    {
-        self.named.iter().any(|pair| pair.0.as_str() == name)
+// How many signals the models of these bridges have.
+fn signals_of<B: Bridge>(bridges: &[(Name, B)]) -> u64
+    requires { signals_of B.piece bridges.now ≤ most_signals }
+    ensures { result ≡ signals_of B.piece bridges.now }
+{
+    let mut signals = 0;
+    for pair in bridges {
+        signals += pair.1.model().signal_count() as u64;
     }
+    signals
+}
 
-    // The number of signals of the models with that of one more bridge, if it can have this name.
-    fn signals_with(&self, name: &str, bridge: &B) -> Result<u64, HandFault>
-        ensures fault { Tells said_by (hand_fault B.piece self.now name.now bridge.now) result }
-        ensures counts { IfOk result (λ signals. signals ≡ signals_of B.piece self.now + length (B.piece bridge.now).signals) }
-    {
-        if !is_name(name) {
-            return Err(HandFault::Name);
-        }
-        if self.has(name) {
-            return Err(HandFault::Taken);
-        }
-        let signals = self.signals + bridge.model().signal_count() as u64;
-        if signals > MOST_SIGNALS {
-            return Err(HandFault::TooLarge);
-        }
-        Ok(signals)
+// Whether a bridge of this name can be handed in with these.
+fn judge<B: Bridge>(bridges: &[(Name, B)], name: &str, bridge: &B) -> Result<(), HandFault>
+    requires { signals_of B.piece bridges.now ≤ most_signals }
+    ensures { Tells said_by (hand_fault B.piece bridges.now name.now bridge.now) result }
+{
+    if !is_name(name) {
+        return Err(HandFault::Name);
     }
+    if is_taken(bridges, name) {
+        return Err(HandFault::Taken);
+    }
+    if signals_of(bridges) + bridge.model().signal_count() as u64 > MOST_SIGNALS {
+        return Err(HandFault::TooLarge);
+    }
+    Ok(())
+}
 
-    /// Adds a bridge that is in the state of zeros. Its name has ASCII letters, digits and `_`, at least one of them, and no other bridge has it.
-    ///
-    /// # Errors
-    ///
-    /// Returns the first `HandFault` of `Name`, `Taken`, `TooLarge`, exactly if there is one, or `NoMemory` if an allocation fails. The bridge is
-    /// then dropped, and the others stay.
-    pub fn add(&mut self, alloc: Global, name: &str, bridge: B) -> Result<(), HandFault>
-        requires { B.state bridge ≡ opening (B.piece bridge) }
-        ensures fault { Tells said_by (hand_fault B.piece self.old name.now bridge) result }
-        ensures added { MatchResult result (λ _. self.new ≡ self.old ++ (name.now, bridge) ∷ []) (λ _. self.new ≡ self.old) }
-    {
-        let signals = self.signals_with(name, &bridge)?;
-        let own = Name::from_str(alloc, name)?;
-        match self.named.push((own, bridge)) {
-            Ok(()) => {
-                self.signals = signals;
-                Ok(())
-            }
-            Err(_) => Err(HandFault::NoMemory),
-        }
-    }
-
-    /// The bridges, in the order of their `add` calls.
-    pub fn into_list(self) -> Vec<(Name, B)>
-        ensures same { result.items ≡ self }
-        ensures can { CanHandIn B.piece B.state result.items }
-    {
-        let Self { named, signals: _ } = self;
-        named
-    }
+/// Adds a bridge to the list that `golden_with` is called with. The bridge is in the state of zeros. Its name has ASCII letters, digits and `_`, at
+/// least one of them, and no other bridge of the list has it.
+///
+/// # Errors
+///
+/// Returns the first `HandFault` of `Name`, `Taken`, `TooLarge`, exactly if there is one, or `NoMemory` if an allocation fails. The bridge is
+/// then dropped, and the list stays as it was.
+///
+/// # Examples
+///
+/// ```
+/// let mut bridges = Vec::new(alloc);
+/// let echo: Box<dyn Bridge + Send + Drop> = Box::new(alloc, Echo::new(alloc, 8)?)?;
+/// hand_in(alloc, &mut bridges, "echo8", echo)?;
+/// ```
+pub fn hand_in<B: Bridge + Drop>(
+    alloc: Global,
+    bridges: &mut Vec<(Name, B)>,
+    name: &str,
+    bridge: B,
+) -> Result<(), HandFault>
+    requires zeros { B.state bridge ≡ opening (B.piece bridge) }
+    requires can { CanHandIn B.piece B.state bridges.old.items }
+    ensures fault { Tells said_by (hand_fault B.piece bridges.old.items name.now bridge) result }
+    ensures added { MatchResult result (λ _. bridges.new.items ≡ bridges.old.items ++ (name.now, bridge) ∷ []) (λ _. bridges.new.items ≡ bridges.old.items) }
+    ensures can { CanHandIn B.piece B.state bridges.new.items }
+{
+    judge(bridges.as_slice(), name, &bridge)?;
+    let own = Name::from_str(alloc, name)?;
+    bridges.push((own, bridge))?;
+    Ok(())
 }

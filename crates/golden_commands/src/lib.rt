@@ -10,7 +10,7 @@
 //! - Reference: `reference_of` makes the circuit with a register for each pipe. `shown_ports` are the outputs that no bridge sees.
 //! - Printed: `print_run` prints a run by the simulator, and `print_fed` from the network of the cut. `replay_net` does steps on that
 //!   network and prints the tokens of each channel. `print_plan` prints the machines and the channels of a cut.
-//! - Handed in: [`Bridges`] are bridges that can be handed in, each with its name.
+//! - Handed in: `hand_in` adds a bridge to a list that can be handed in.
 //! - Reported: `end_at_words`, `end_at_snap` and `end_few` make the reports for words and for snapshots.
 #![tactic(auto)]
 
@@ -30,7 +30,7 @@ mod whole;
 mod windows;
 mod words;
 
-pub use bridges::{Bridges, HandFault, MOST_SIGNALS};
+pub use bridges::{HandFault, MOST_SIGNALS, hand_in};
 pub use case::{Case, Fed, FedWords, read_case, read_fed};
 pub use checking::print_plan;
 pub use handed::models_of;

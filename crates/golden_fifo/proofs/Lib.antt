@@ -1,3 +1,2 @@
-pub mod HandLemmas
 pub mod FifoLemmas
 mod WorkedFifo

@@ -1,11 +1,9 @@
 -- Whether a bridge can be handed in together with others.
 -- Source: none; the form of a name and the limit are this program's own.
-use Rattle.std.specs.Prelude.{◌≡◌, ℕ, ◌+◌, Bool, not, ◌&&◌, ◌==◌, if◌then◌else◌, List, length, map, sum, Option, Some, None, bytes_eq, nat_lt}
+use Rattle.std.specs.Prelude.{ℕ, ◌+◌, Bool, not, ◌&&◌, ◌==◌, if◌then◌else◌, List, length, map, sum, Option, Some, None, bytes_eq, nat_lt}
 use Rattle.std.specs.List.{list_all, list_any}
 use Rattle.gg_flat.specs.Circuit.{FlatCircuit}
-use Rattle.gg_flat.specs.State.{State}
 use Rattle.golden_commands.specs.Handed.{is_word_byte, most_signals}
-use Rattle.golden_commands.specs.Bridges.{CanHandIn}
 use Rattle.golden_commands.specs.declared.bridges.HandFault.{HandFault}
 use Rattle.golden_commands.specs.declared.bridges.HandFault.TheVariants.{Name, Taken, TooLarge, NoMemory}
 
@@ -35,8 +33,3 @@ said_by Name = Some Name
 said_by Taken = Some Taken
 said_by TooLarge = Some TooLarge
 said_by NoMemory = None
-
--- These bridges can be handed in, and their models have this many signals.
-pub record AreCounted {B : Type 0} (piece : B → FlatCircuit) (state : B → State) (bridges : List (List ℕ × B)) (signals : ℕ) : Type 0 where
-  pub can : CanHandIn piece state bridges
-  pub count : signals ≡ signals_of piece bridges
