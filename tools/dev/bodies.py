@@ -131,7 +131,12 @@ def check_invariant(path, name, by):
     check_ghost(path, f"Model for {name} invariant", by)
 
 
-KINDS = {"clause": check_clause, "theorem": check_theorem, "law": check_law, "ghost": check_ghost, "invariant": check_invariant}
+def check_test(path, name, _by):
+    """A test that fails on the wrong body."""
+    need(re.search(rf"^#\[test\]\n(?:pub )?fn {name}\b", text_of(path), re.M), f"{path} has no test {name}")
+
+
+KINDS = {"clause": check_clause, "test": check_test, "theorem": check_theorem, "law": check_law, "ghost": check_ghost, "invariant": check_invariant}
 
 
 def check(body):

@@ -1,5 +1,6 @@
 //! `flatten`: from a circuit to its flat circuit.
 ghost use Rattle.std.specs.Prelude.{◌≡◌, ◌≢◌, ◌<◌, ◌^◌, length, map, Some, None, Err, IfOk};
+ghost use Rattle.gg_bits.specs.inside.Firsts.{Tells};
 ghost use Rattle.gg_ast.specs.Places.{place_of};
 ghost use Rattle.gg_ast.specs.Tree.{module_names};
 ghost use Rattle.gg_elab_sites.specs.inside.Views.{AreDigests};
@@ -13,7 +14,7 @@ ghost use Rattle.gg_flat.specs.WellFormed.{IsWellFormed};
 ghost use Rattle.gg_elab_tree.specs.IsTreeOf.{IsTreeOf};
 ghost use Rattle.gg_elab_sites.specs.Known.{types_of};
 ghost use Rattle.gg_elab.specs.Limits.{excess_over};
-ghost use Rattle.gg_elab.specs.inside.Limits.{IsAnswered};
+ghost use Rattle.gg_elab.specs.inside.Limits.{excess_of};
 
 use crate::build::add_sites;
 use crate::fault::ElabFault;
@@ -109,7 +110,7 @@ pub fn flatten(alloc: Global, typed: &Typed) -> Result<(Piece, Tree), ElabFault>
     ensures fitting { IfOk result (λ both. IsTree both.0 both.1) }
     ensures scoped { IfOk result (λ both. IsScoped both.0 both.1) }
     ensures clocked { IfOk result (λ both. IsClocked both.0 both.1) }
-    ensures limits { IsAnswered (excess_over (types_of typed.now.circuit) typed.now.circuit.modules (place_of typed.now.circuit.name (module_names typed.now.circuit))) result }
+    ensures limits { Tells excess_of (excess_over (types_of typed.now.circuit) typed.now.circuit.modules (place_of typed.now.circuit.name (module_names typed.now.circuit))) result }
 {
     let circuit = typed.names().circuit();
     let top = top_of(typed);

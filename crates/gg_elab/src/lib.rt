@@ -6,7 +6,7 @@
 //!   exactly one signal;
 //! - the tree that it returns is a tree of the flat circuit (`IsTree`), and the flat circuit keeps to the tree's scopes
 //!   (`IsScoped`);
-//! - it refuses a circuit exactly if a count is above its limit, with the first such count (`IsAnswered`).
+//! - it refuses a circuit exactly if a count is above its limit, with the first such count (`Tells` of gg_bits).
 //!
 //! A circuit without faults of types has a flat circuit (`each_has_flat`).
 #![tactic(auto)]

@@ -1,5 +1,6 @@
 //! Partition files: which instances become units, which of them share a host, which memories are hosts of their own,
-//! the capacities of channels, whether channels are direct, and which channels hold a token from the start.
+//! the capacities of channels, whether channels are direct, which channels hold a token from the start, the periods of
+//! clocks, and the models of bridges.
 //!
 //! A partition file is a JSON text (RFC 8259): an object with optional keys. The keys that it may have are in one list,
 //! in the order of their checks (`keys` of specs/Keys, and `KEYS` of src/keys.rt). This list determines the first key

@@ -3,7 +3,8 @@ ghost use Rattle.std.specs.Prelude.{◌≡◌, ℕ, ◌+◌, ◌<◌, List, [], 
 ghost use Rattle.gg_bits.specs.Shape.{shape};
 ghost use Rattle.gg_flat.specs.Line.{op_at, shape_at, shapes_of};
 ghost use Rattle.gg_tape.specs.inside.Instruction.{small};
-ghost use Rattle.gg_tape.specs.inside.Told.{cell_of as cell_at, IsRef, NamesBefore, Does, TellsTo, IsAdded};
+ghost use Rattle.gg_tape.specs.declared.instruction.Operation.TheVariants.{Take};
+ghost use Rattle.gg_tape.specs.inside.Told.{cell_of as cell_at, IsOf, IsRef, NamesBefore, Does, TellsTo, IsAdded};
 
 use crate::instruction::{Instruction, Operation};
 use crate::small::Small;
@@ -43,6 +44,63 @@ fn add_literal(literals: &mut Vec<u128>, value: u128) -> Result<u32, AllocError>
     Ok(number)
 }
 
+// The instruction that takes cell 0 for node k: the others are this one with more filled in.
+fn take_none(nodes: &[Node], signals: u32, k: u32) -> Instruction
+    requires within { k < length nodes.now }
+    requires room { signals + length nodes.now < 4294967296 }
+    ensures cell { result.cell ≡ signals + k }
+    ensures ty { small result.ty ≡ shape_at (shapes_of nodes.now) k }
+    ensures operation { result.operation ≡ Take }
+{
+    let ty = small_of(nodes, k);
+    Instruction {
+        operation: Operation::Take,
+        ty,
+        first_ty: ty,
+        second_ty: ty,
+        first: 0,
+        second: 0,
+        third: 0,
+        cell: signals + k,
+    }
+}
+
+// The instruction for node k that does this operation on node i.
+fn on_one(nodes: &[Node], signals: u32, k: u32, operation: Operation, i: u32) -> Instruction
+    requires within { k < length nodes.now }
+    requires room { signals + length nodes.now < 4294967296 }
+    requires before { i < k }
+    ensures cell { result.cell ≡ signals + k }
+    ensures ty { small result.ty ≡ shape_at (shapes_of nodes.now) k }
+    ensures operation { result.operation ≡ operation }
+    ensures first { IsOf nodes.now signals i result.first result.first_ty }
+{
+    Instruction {
+        operation,
+        first_ty: small_of(nodes, i),
+        first: cell_of(nodes, signals, i),
+        ..take_none(nodes, signals, k)
+    }
+}
+
+// The instruction for node k that does this operation on nodes i and j.
+fn on_two(nodes: &[Node], signals: u32, k: u32, operation: Operation, i: u32, j: u32) -> Instruction
+    requires within { k < length nodes.now }
+    requires room { signals + length nodes.now < 4294967296 }
+    requires before { (i < k) × (j < k) }
+    ensures cell { result.cell ≡ signals + k }
+    ensures ty { small result.ty ≡ shape_at (shapes_of nodes.now) k }
+    ensures operation { result.operation ≡ operation }
+    ensures first { IsOf nodes.now signals i result.first result.first_ty }
+    ensures second { IsOf nodes.now signals j result.second result.second_ty }
+{
+    Instruction {
+        second_ty: small_of(nodes, j),
+        second: cell_of(nodes, signals, j),
+        ..on_one(nodes, signals, k, operation, i)
+    }
+}
+
 // The instruction for a node. Its operands are earlier nodes.
 fn instruction_for(
     nodes: &[Node],
@@ -56,61 +114,29 @@ fn instruction_for(
     ensures does { IfOk result (λ i. Does nodes.now signals literals.new.items k i) }
     ensures more { OnOk result ((more : List ℕ) × (literals.new.items ≡ literals.old.items ++ more)) }
 {
-    let ty = small_of(nodes, k);
-    let cell = signals + k;
-    let none = Instruction {
-        operation: Operation::Take,
-        ty,
-        first_ty: ty,
-        second_ty: ty,
-        first: 0,
-        second: 0,
-        third: 0,
-        cell,
-    };
     match op_of(nodes, k as usize) {
         Op::Ref(signal) => Ok(Instruction {
             first: *signal,
-            ..none
+            ..take_none(nodes, signals, k)
         }),
         Op::Literal(value) => {
             let first = add_literal(literals, value.0)?;
             Ok(Instruction {
                 operation: Operation::Constant,
                 first,
-                ..none
+                ..take_none(nodes, signals, k)
             })
         }
-        Op::One(op, i) => Ok(Instruction {
-            operation: Operation::Apply1(*op),
-            first_ty: small_of(nodes, *i),
-            first: cell_of(nodes, signals, *i),
-            ..none
-        }),
-        Op::Two(op, i, j) => Ok(Instruction {
-            operation: Operation::Apply2(*op),
-            first_ty: small_of(nodes, *i),
-            second_ty: small_of(nodes, *j),
-            first: cell_of(nodes, signals, *i),
-            second: cell_of(nodes, signals, *j),
-            ..none
-        }),
+        Op::One(op, i) => Ok(on_one(nodes, signals, k, Operation::Apply1(*op), *i)),
+        Op::Two(op, i, j) => Ok(on_two(nodes, signals, k, Operation::Apply2(*op), *i, *j)),
         Op::Fix(op, i, n, m) => Ok(Instruction {
-            operation: Operation::ApplyConst(*op),
-            first_ty: small_of(nodes, *i),
-            first: cell_of(nodes, signals, *i),
             second: *n,
             third: *m,
-            ..none
+            ..on_one(nodes, signals, k, Operation::ApplyConst(*op), *i)
         }),
         Op::Mux(c, i, j) => Ok(Instruction {
-            operation: Operation::Choose,
-            first_ty: small_of(nodes, *i),
-            second_ty: small_of(nodes, *j),
-            first: cell_of(nodes, signals, *i),
-            second: cell_of(nodes, signals, *j),
             third: cell_of(nodes, signals, *c),
-            ..none
+            ..on_two(nodes, signals, k, Operation::Choose, *i, *j)
         }),
     }
 }
