@@ -1,4 +1,5 @@
-//! Tests around a network: simulators, parts and needs, units, clocks, trays, logs of a replay, and networks that begin at a later cycle.
+//! Tests around a network: simulators, parts and needs, units and the steps of their tokens, clocks, trays, logs of a replay, and networks that
+//! begin at a later cycle.
 
 mod begins;
 mod clocks;
@@ -7,4 +8,5 @@ mod models;
 mod pieces;
 mod simulators;
 mod tables;
+mod tokens;
 mod trays;

@@ -79,7 +79,7 @@ fn gives_it(alloc: Global, piece: &Piece) -> Result<bool, AllocError>
 }
 
 // Whether there are slots for the program of a piece.
-fn has_slots(alloc: Global, piece: &Piece) -> Result<bool, NoMemory>
+pub(crate) fn has_slots(alloc: Global, piece: &Piece) -> Result<bool, NoMemory>
     requires formed { IsWellFormed piece.now }
     requires ordered { IsInOrder piece.now }
 {

@@ -5,6 +5,7 @@ use crate::circuits::logs::{check_lines, has_first_token};
 use crate::circuits::models::{copies_a_tree, keeps_a_model};
 use crate::circuits::pieces::{passes, toggles};
 use crate::circuits::simulators::check_simulators;
+use crate::circuits::tokens::takes_two_steps;
 use crate::circuits::trays::keeps_the_last_two;
 use std::process::Abort;
 
@@ -30,4 +31,5 @@ fn circuits_are_simulated_and_calls_succeed(rt: HostRuntime) {
     check(&rt, copies_a_tree(alloc), "a tree");
     check(&rt, toggles(alloc), "a register that toggles");
     check(&rt, passes(alloc), "an output that waits for its input");
+    check(&rt, takes_two_steps(alloc), "the tokens of a unit");
 }
