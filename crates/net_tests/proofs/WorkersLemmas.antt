@@ -1,1 +1,1 @@
-pub mod OptionalNodeLemmas
+pub mod OptionalHostLemmas

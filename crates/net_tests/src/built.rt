@@ -3,10 +3,11 @@ ghost use Rattle.std.specs.Prelude.{◌≡◌, ℕ, ◌<◌, ◌≤◌, true, le
 ghost use Rattle.gg_build.specs.inside.Build.{IsToRun, NeedsNone};
 ghost use Rattle.gg_net.specs.Network.{cycle_at};
 
-use gg_bridge::Echo;
+use gg_bridge::{Bridge, Echo};
 use gg_build::{Node, build};
 use gg_cut_plan::Plan;
 use gg_net::{Net, Streams};
+use gg_node::Host;
 use gg_trace::Trace;
 use std::alloc::{AllocError, Global};
 
@@ -24,9 +25,22 @@ pub(crate) fn build_alone<'a, Z: Streams>(
     Ok(net)
 }
 
-// Whether no machine is above a cycle.
-pub(crate) fn is_at_most<Z: Streams>(net: &Net<Node<'_, Echo>, Z>, cycle: u64) -> bool
-    ensures { result ≡ true → (m : ℕ) → m < length net.now.machines → cycle_at net.now m ≤ cycle }
+// A host of a network here. What its tray keeps can be seen.
+pub(crate) trait TestHost: Host {
+    // The value of a cycle that it keeps. None if it doesn't keep it, or if it is no tray.
+    fn kept(&self, cycle: u64) -> Option<u128>;
+}
+
+impl<B: Bridge + Send + Drop> TestHost for Node<'_, B> {
+    fn kept(&self, cycle: u64) -> Option<u128> {
+        self.value(cycle)
+    }
+}
+
+// Whether no machine is above a cycle, and the network has at least that many to do.
+pub(crate) fn may_go_to<H: Host, Z: Streams>(net: &Net<H, Z>, cycle: u64) -> bool
+    ensures within { result ≡ true → cycle ≤ net.now.end }
+    ensures none_above { result ≡ true → (m : ℕ) → m < length net.now.machines → cycle_at net.now m ≤ cycle }
 {
     net.within_limits();
     for machine in 0..net.machines() {
@@ -34,16 +48,16 @@ pub(crate) fn is_at_most<Z: Streams>(net: &Net<Node<'_, Echo>, Z>, cycle: u64) -
             return false;
         }
     }
-    true
+    cycle <= net.end()
 }
 
 // A value of a case. `None`: it is none.
-pub(crate) fn value_of(digits: &str) -> Option<u128> {
+fn value_of(digits: &str) -> Option<u128> {
     u128::from_str_radix(digits, 16).ok()
 }
 
 // Whether the last machine is a tray that keeps these values, one for each cycle, starting at cycle 0.
-pub(crate) fn keeps<Z: Streams>(net: &Net<Node<'_, Echo>, Z>, values: &str) -> bool {
+pub(crate) fn keeps<H: TestHost, Z: Streams>(net: &Net<H, Z>, values: &str) -> bool {
     net.within_limits();
     let machines = net.machines();
     if machines == 0 {
@@ -53,10 +67,10 @@ pub(crate) fn keeps<Z: Streams>(net: &Net<Node<'_, Echo>, Z>, values: &str) -> b
     let mut cycle: u64 = 0;
     for digits in values.split(' ') {
         let value = value_of(digits);
-        if value.is_none() || tray.value(cycle) != value {
+        if value.is_none() || tray.kept(cycle) != value {
             return false;
         }
         cycle = cycle.saturating_add(1);
     }
-    tray.value(cycle).is_none()
+    tray.kept(cycle).is_none()
 }

@@ -1,14 +1,13 @@
 //! gg_measure: the steps that are left in a network, and doing them in two orders.
-use crate::built::{is_at_most, keeps};
+use crate::built::{TestHost, keeps, may_go_to};
 use crate::cases::field;
 use crate::networks::Case;
-use gg_bridge::Echo;
-use gg_build::Node;
 use gg_measure::{Order, left, possible, run_by, run_to, run_to_end};
 use gg_net::{Net, Streams};
+use gg_node::Host;
 
 // Does the steps that `possible` returns, one after another. Returns how many were done, at most this many.
-fn follow<Z: Streams>(net: &mut Net<Node<'_, Echo>, Z>, most: u64) -> u64 {
+fn follow<H: Host, Z: Streams>(net: &mut Net<H, Z>, most: u64) -> u64 {
     for done in 0..most {
         let Some(event) = possible(net) else {
             return done;
@@ -21,13 +20,13 @@ fn follow<Z: Streams>(net: &mut Net<Node<'_, Echo>, Z>, most: u64) -> u64 {
 }
 
 // Runs a network to its end by an order that is noted in its next cycle. Returns whether that could be done.
-fn run_by_order<Z: Streams>(net: &mut Net<Node<'_, Echo>, Z>) -> bool {
+pub(crate) fn run_by_order<H: Host, Z: Streams>(net: &mut Net<H, Z>) -> bool {
     let alloc = *net.shape().wires.allocator();
     let Ok(mut order) = Order::new(alloc, net) else {
         return false;
     };
     let end = net.end();
-    let begins = is_at_most(net, end);
+    let begins = may_go_to(net, end);
     if begins {
         run_by(net, &mut order, end);
     }
@@ -36,8 +35,8 @@ fn run_by_order<Z: Streams>(net: &mut Net<Node<'_, Echo>, Z>) -> bool {
 
 // Runs a network that is before its first cycle to cycle 1, and then by an order to its end. Returns whether the steps left at cycle 1 are the steps
 // of the other cycles.
-fn run_in_two<Z: Streams>(net: &mut Net<Node<'_, Echo>, Z>, case: &Case<'_>) -> bool {
-    let begins = net.end() >= 1 && is_at_most(net, 1);
+fn run_in_two<H: Host, Z: Streams>(net: &mut Net<H, Z>, case: &Case<'_>) -> bool {
+    let begins = may_go_to(net, 1);
     if begins {
         run_to(net, 1);
     }
@@ -47,16 +46,12 @@ fn run_in_two<Z: Streams>(net: &mut Net<Node<'_, Echo>, Z>, case: &Case<'_>) -> 
 }
 
 // Whether nothing is left to do.
-fn is_done<Z: Streams>(net: &Net<Node<'_, Echo>, Z>) -> bool {
+fn is_done<H: Host, Z: Streams>(net: &Net<H, Z>) -> bool {
     left(net) == 0 && possible(net).is_none()
 }
 
 // Whether a machine has the same counts in two networks.
-fn is_machine_alike<Z: Streams>(
-    one: &Net<Node<'_, Echo>, Z>,
-    other: &Net<Node<'_, Echo>, Z>,
-    machine: u32,
-) -> bool {
+fn is_machine_alike<H: Host, Z: Streams>(one: &Net<H, Z>, other: &Net<H, Z>, machine: u32) -> bool {
     (machine as usize) < one.machines()
         && (machine as usize) < other.machines()
         && one.cycle(machine) == other.cycle(machine)
@@ -64,11 +59,7 @@ fn is_machine_alike<Z: Streams>(
 }
 
 // Whether a channel has the same counts and the same newest token in two networks.
-fn is_channel_alike<Z: Streams>(
-    one: &Net<Node<'_, Echo>, Z>,
-    other: &Net<Node<'_, Echo>, Z>,
-    channel: u32,
-) -> bool {
+fn is_channel_alike<H: Host, Z: Streams>(one: &Net<H, Z>, other: &Net<H, Z>, channel: u32) -> bool {
     (channel as usize) < one.channels()
         && (channel as usize) < other.channels()
         && one.puts(channel) == other.puts(channel)
@@ -77,9 +68,9 @@ fn is_channel_alike<Z: Streams>(
 }
 
 // Whether a machine's tray keeps the same values in two networks, if it is a tray.
-fn is_tray_alike<Z: Streams>(
-    one: &Net<Node<'_, Echo>, Z>,
-    other: &Net<Node<'_, Echo>, Z>,
+fn is_tray_alike<H: TestHost, Z: Streams>(
+    one: &Net<H, Z>,
+    other: &Net<H, Z>,
     machine: u32,
 ) -> bool {
     if machine as usize >= one.machines() || machine as usize >= other.machines() {
@@ -88,7 +79,7 @@ fn is_tray_alike<Z: Streams>(
     let tray = one.host(machine);
     let same = other.host(machine);
     for cycle in 0..one.end() {
-        if tray.value(cycle) != same.value(cycle) {
+        if tray.kept(cycle) != same.kept(cycle) {
             return false;
         }
     }
@@ -96,11 +87,7 @@ fn is_tray_alike<Z: Streams>(
 }
 
 // Whether two networks have the same counts, and the same values in their trays.
-fn are_alike<Z: Streams>(
-    one: &Net<Node<'_, Echo>, Z>,
-    other: &Net<Node<'_, Echo>, Z>,
-    case: &Case<'_>,
-) -> bool {
+fn are_alike<H: TestHost, Z: Streams>(one: &Net<H, Z>, other: &Net<H, Z>, case: &Case<'_>) -> bool {
     for machine in 0..case.machines {
         if !is_machine_alike(one, other, machine) || !is_tray_alike(one, other, machine) {
             return false;
@@ -115,9 +102,9 @@ fn are_alike<Z: Streams>(
 }
 
 // Whether two networks end alike, by `run_to_end` from where they are.
-pub(crate) fn run_alike<Z: Streams>(
-    one: &mut Net<Node<'_, Echo>, Z>,
-    other: &mut Net<Node<'_, Echo>, Z>,
+pub(crate) fn run_alike<H: TestHost, Z: Streams>(
+    one: &mut Net<H, Z>,
+    other: &mut Net<H, Z>,
     case: &Case<'_>,
 ) -> bool {
     run_to_end(one);
@@ -127,9 +114,9 @@ pub(crate) fn run_alike<Z: Streams>(
 
 // Whether two networks end alike. The one does the steps that `possible` returns, and the other goes by `run_to`. Both are
 // before their first cycle.
-pub(crate) fn end_alike<Z: Streams>(
-    one: &mut Net<Node<'_, Echo>, Z>,
-    other: &mut Net<Node<'_, Echo>, Z>,
+pub(crate) fn end_alike<H: TestHost, Z: Streams>(
+    one: &mut Net<H, Z>,
+    other: &mut Net<H, Z>,
     case: &Case<'_>,
 ) -> bool {
     left(one) == case.left

@@ -29,17 +29,15 @@ ghost use Rattle.gg_cut_plan.specs.Held.{AreHeldOnce};
 ghost use Rattle.gg_cut_reference.specs.whole.Whole.{HasFreeFronts};
 ghost use Rattle.gg_flat.specs.Run.{IsColumns};
 
-use crate::built::build_alone;
 use crate::cases::{circuit_of, field, is_known, trace_of};
-use crate::measures::end_alike;
 use crate::orders::{is_each_alike, is_in_order};
 use crate::reading::{design_of, inputs_of, request_of};
 use crate::refusals::are_refused;
-use gg_bridge::Echo;
-use gg_build::Node;
+use crate::tries::{Try, is_tried};
 use gg_cut::cut;
 use gg_cut_plan::{Models, Plan};
 use gg_net::{Event, Net, StepRefusal, Streams};
+use gg_node::Host;
 use gg_order::Design;
 use gg_partfile::Request;
 use gg_trace::Trace;
@@ -181,7 +179,7 @@ pub(crate) fn event_of(word: &str) -> Event {
 }
 
 // Whether these steps can be done.
-pub(crate) fn goes_once<Z: Streams>(net: &mut Net<Node<'_, Echo>, Z>, steps: &str) -> bool {
+pub(crate) fn goes_once<H: Host, Z: Streams>(net: &mut Net<H, Z>, steps: &str) -> bool {
     for word in steps.split_whitespace() {
         if net.step(event_of(word)).is_err() {
             return false;
@@ -191,7 +189,7 @@ pub(crate) fn goes_once<Z: Streams>(net: &mut Net<Node<'_, Echo>, Z>, steps: &st
 }
 
 // Whether the steps of a cycle can be done this many times.
-fn goes<Z: Streams>(net: &mut Net<Node<'_, Echo>, Z>, steps: &str, times: u64) -> bool {
+fn goes<H: Host, Z: Streams>(net: &mut Net<H, Z>, steps: &str, times: u64) -> bool {
     for _ in 0..times {
         if !goes_once(net, steps) {
             return false;
@@ -201,12 +199,12 @@ fn goes<Z: Streams>(net: &mut Net<Node<'_, Echo>, Z>, steps: &str, times: u64) -
 }
 
 // The network, taken apart and put together again.
-fn joined<'a, Z: Streams>(net: Net<Node<'a, Echo>, Z>) -> Net<Node<'a, Echo>, Z> {
+fn joined<H: Host, Z: Streams>(net: Net<H, Z>) -> Net<H, Z> {
     Net::of(net.parts())
 }
 
 // Whether these are the hosts of the machines.
-fn are_hosts<Z: Streams>(net: &Net<Node<'_, Echo>, Z>, hosts: &str) -> bool {
+fn are_hosts<H: Host, Z: Streams>(net: &Net<H, Z>, hosts: &str) -> bool {
     let stations = net.shape().stations.as_slice();
     let mut machine: usize = 0;
     for host in hosts.split(' ') {
@@ -219,7 +217,7 @@ fn are_hosts<Z: Streams>(net: &Net<Node<'_, Echo>, Z>, hosts: &str) -> bool {
 }
 
 // Whether a network is as expected before its first cycle.
-fn opens<Z: Streams>(net: &Net<Node<'_, Echo>, Z>, case: &Case<'_>) -> bool {
+fn opens<H: Host, Z: Streams>(net: &Net<H, Z>, case: &Case<'_>) -> bool {
     net.machines() == case.machines as usize
         && net.channels() == case.channels as usize
         && net.shape().stations.len() == case.machines as usize
@@ -228,7 +226,7 @@ fn opens<Z: Streams>(net: &Net<Node<'_, Echo>, Z>, case: &Case<'_>) -> bool {
 }
 
 // Whether all cycles of a machine are done.
-fn has_ended<Z: Streams>(net: &Net<Node<'_, Echo>, Z>, machine: u32) -> bool
+fn has_ended<H: Host, Z: Streams>(net: &Net<H, Z>, machine: u32) -> bool
     requires { machine < length net.now.machines }
 {
     net.cycle(machine) == net.end()
@@ -237,7 +235,7 @@ fn has_ended<Z: Streams>(net: &Net<Node<'_, Echo>, Z>, machine: u32) -> bool
 }
 
 // Whether a channel has a token put and taken in each cycle, and holds one exactly if it opened with one.
-fn is_spent<Z: Streams>(net: &Net<Node<'_, Echo>, Z>, channel: u32) -> bool
+fn is_spent<H: Host, Z: Streams>(net: &Net<H, Z>, channel: u32) -> bool
     requires { channel < length net.now.wires }
 {
     let first = net.shape().wires.as_slice()[channel as usize].first;
@@ -261,7 +259,7 @@ fn served_of(line: &str) -> Option<(u32, u32, u64)> {
 }
 
 // Whether machine 1 serves as expected.
-fn serves<Z: Streams>(net: &Net<Node<'_, Echo>, Z>, case: &Case<'_>) -> bool {
+fn serves<H: Host, Z: Streams>(net: &Net<H, Z>, case: &Case<'_>) -> bool {
     let Some((ports, dues, times)) = served_of(field(case.text, "serves ")) else {
         return false;
     };
@@ -272,7 +270,7 @@ fn serves<Z: Streams>(net: &Net<Node<'_, Echo>, Z>, case: &Case<'_>) -> bool {
 }
 
 // Whether a network is as expected after its last cycle.
-fn closes<Z: Streams>(net: &Net<Node<'_, Echo>, Z>, case: &Case<'_>) -> bool {
+fn closes<H: Host, Z: Streams>(net: &Net<H, Z>, case: &Case<'_>) -> bool {
     for machine in 0..case.machines {
         if machine as usize >= net.machines() || !has_ended(net, machine) {
             return false;
@@ -287,36 +285,11 @@ fn closes<Z: Streams>(net: &Net<Node<'_, Echo>, Z>, case: &Case<'_>) -> bool {
 }
 
 // Whether a network runs as expected. It is taken apart after its first cycle.
-fn runs<Z: Streams>(mut net: Net<Node<'_, Echo>, Z>, case: &Case<'_>) -> bool {
+pub(crate) fn runs<H: Host, Z: Streams>(mut net: Net<H, Z>, case: &Case<'_>) -> bool {
     let steps = field(case.text, "steps ");
     let begins = opens(&net, case) && goes(&mut net, steps, 1);
     let mut net = joined(net);
     begins && goes(&mut net, steps, case.end.saturating_sub(1)) && closes(&net, case)
-}
-
-// Whether the network of a plan runs as expected by the steps of the case.
-fn is_built_once<Z: Streams>(alloc: Global, plan: &Plan, inputs: &Trace, case: &Case<'_>) -> bool
-    requires run { IsToRun plan.now inputs.now.columns inputs.now.rows Z.flow }
-    requires alone { NeedsNone plan.now }
-{
-    match build_alone::<Z>(alloc, plan, inputs) {
-        Ok(net) => runs(net, case),
-        Err(_) => false,
-    }
-}
-
-// Whether two networks of a plan end alike, in two orders of steps.
-fn is_built_twice<Z: Streams>(alloc: Global, plan: &Plan, inputs: &Trace, case: &Case<'_>) -> bool
-    requires run { IsToRun plan.now inputs.now.columns inputs.now.rows Z.flow }
-    requires alone { NeedsNone plan.now }
-{
-    match build_alone::<Z>(alloc, plan, inputs) {
-        Ok(mut one) => match build_alone::<Z>(alloc, plan, inputs) {
-            Ok(mut other) => end_alike(&mut one, &mut other, case),
-            Err(_) => false,
-        },
-        Err(_) => false,
-    }
 }
 
 // Whether the network of a plan without bridges runs as expected. The caller picks what it computes, by the design and the request.
@@ -332,11 +305,11 @@ fn is_built<Z: Streams>(
     requires run { IsToRun plan.now inputs.now.columns inputs.now.rows Z.flow }
     requires alone { NeedsNone plan.now }
 {
-    is_built_once::<Z>(alloc, plan, inputs, case)
-        && is_built_twice::<Z>(alloc, plan, inputs, case)
+    is_tried::<Z>(alloc, plan, inputs, case, &Try::Steps)
+        && is_tried::<Z>(alloc, plan, inputs, case, &Try::Alike)
         && are_refused::<Z>(alloc, plan, inputs, case)
-        && is_in_order::<Z>(alloc, plan, inputs, field(case.text, "calls "))
-        && is_each_alike::<Z>(alloc, plan, inputs, field(case.text, "each "), case.end)
+        && is_in_order::<Z>(alloc, plan, inputs, case)
+        && is_each_alike::<Z>(alloc, plan, inputs, case)
 }
 
 // Whether the network of a design and a request without bridges runs as expected, for channels of capacity 1.

@@ -1,14 +1,14 @@
 //! gg_measure: the order of the steps of `run_to_end`, `run_to` and `run_by`, as the hosts of a network see it.
-ghost use Rattle.std.specs.Prelude.{◌≡◌, ℕ, ◌<◌, ◌≤◌, length, true};
 ghost use Rattle.gg_build.specs.inside.Build.{IsToRun, NeedsNone};
-ghost use Rattle.gg_net.specs.Network.{cycle_at};
 
-use crate::built::build_alone;
+use crate::built::may_go_to;
+use crate::cases::field;
+use crate::measures::run_by_order;
+use crate::networks::Case;
 use crate::notes::{Notes, Noting, noting_hosts};
-use gg_bridge::Echo;
-use gg_build::Node;
+use crate::tries::{Try, is_tried};
 use gg_cut_plan::Plan;
-use gg_measure::{Order, run_by, run_to, run_to_end};
+use gg_measure::{run_to, run_to_end};
 use gg_net::{Net, Parts, Streams};
 use gg_node::Host;
 use gg_trace::Trace;
@@ -16,7 +16,7 @@ use std::alloc::{AllocError, Global};
 
 // How a network is run to its end.
 #[derive(Clone, Copy)]
-enum Way {
+pub(crate) enum Way {
     AtOnce,
     ByCycles,
     // By an order that is noted in the first cycle.
@@ -42,20 +42,6 @@ fn with_notes<'a, H: Host, Z: Streams>(
     }))
 }
 
-// Whether no machine is above a cycle, and the network has at least that many to do.
-fn may_go_to<H: Host, Z: Streams>(net: &Net<H, Z>, cycle: u64) -> bool
-    ensures within { result ≡ true → cycle ≤ net.now.end }
-    ensures none_above { result ≡ true → (m : ℕ) → m < length net.now.machines → cycle_at net.now m ≤ cycle }
-{
-    net.within_limits();
-    for machine in 0..net.machines() {
-        if net.cycle(machine as u32) > cycle {
-            return false;
-        }
-    }
-    cycle <= net.end()
-}
-
 // Brings a network to one cycle after another, up to its end.
 fn run_cycles<H: Host, Z: Streams>(net: &mut Net<H, Z>) -> bool {
     for cycle in 0..net.end() {
@@ -68,78 +54,61 @@ fn run_cycles<H: Host, Z: Streams>(net: &mut Net<H, Z>) -> bool {
     true
 }
 
-// Brings a network to its end by an order. Returns whether there was memory.
-fn run_ordered<H: Host, Z: Streams>(alloc: Global, net: &mut Net<H, Z>) -> bool {
-    let Ok(mut order) = Order::new(alloc, net) else {
-        return false;
-    };
-    let end = net.end();
-    let goes = may_go_to(net, end);
-    if goes {
-        run_by(net, &mut order, end);
-    }
-    goes
-}
-
 // Runs a network to its end. Returns whether there was memory.
-fn go<H: Host, Z: Streams>(alloc: Global, net: &mut Net<H, Z>, way: Way) -> bool {
+fn go<H: Host, Z: Streams>(net: &mut Net<H, Z>, way: Way) -> bool {
     match way {
         Way::AtOnce => {
             run_to_end(net);
             true
         }
         Way::ByCycles => run_cycles(net),
-        Way::ByOrder => run_ordered(alloc, net),
+        Way::ByOrder => run_by_order(net),
     }
 }
 
-// Runs the network of a plan to its end, and notes the calls. Returns whether there was memory.
-fn runs<'a, Z: Streams>(
+// Runs a network to its end, and notes the calls. Returns whether there was memory.
+pub(crate) fn is_noted<H: Host, Z: Streams>(
     alloc: Global,
-    plan: &'a Plan,
-    inputs: &Trace,
+    net: Net<H, Z>,
     way: Way,
-    notes: &'a Notes,
-) -> bool
-    requires run { IsToRun plan.now inputs.now.columns inputs.now.rows Z.flow }
-    requires alone { NeedsNone plan.now }
-{
-    match build_alone::<Z>(alloc, plan, inputs) {
-        Ok(net) => match with_notes::<Node<'a, Echo>, Z>(alloc, net, notes) {
-            Ok(mut net) => go(alloc, &mut net, way),
-            Err(_) => false,
-        },
+    notes: &Notes,
+) -> bool {
+    match with_notes::<H, Z>(alloc, net, notes) {
+        Ok(mut net) => go(&mut net, way),
         Err(_) => false,
     }
 }
 
-// Whether the network of a plan begins its run with these calls: a word for each, with the number of the host; `L` for a token that is
+// Whether the network of a plan begins its run with the calls of the case: a word for each, with the number of the host; `L` for a token that is
 // taken, `F` for one that is given, `S` for an access, `E` for the end of a cycle; and the place of the in or the out, or the number of the
-// port. Without words any run is right.
+// port. Without calls in the case any run is right.
 pub(crate) fn is_in_order<Z: Streams>(
     alloc: Global,
     plan: &Plan,
     inputs: &Trace,
-    calls: &str,
+    case: &Case<'_>,
 ) -> bool
     requires run { IsToRun plan.now inputs.now.columns inputs.now.rows Z.flow }
     requires alone { NeedsNone plan.now }
 {
+    let calls = field(case.text, "calls ");
     if calls.is_empty() {
         return true;
     }
     match Notes::new(alloc) {
         Ok(notes) => {
-            runs::<Z>(alloc, plan, inputs, Way::AtOnce, &notes) && notes.behind(0, calls).is_some()
+            let what = Try::Calls(Way::AtOnce, &notes);
+            is_tried::<Z>(alloc, plan, inputs, case, &what) && notes.behind(0, calls).is_some()
         }
         Err(_) => false,
     }
 }
 
-// Whether the calls are the calls of this many cycles, each with these words.
-fn are_cycles(notes: &Notes, each: &str, cycles: u64) -> bool {
+// Whether the calls are the calls of the case in each of its cycles.
+fn are_cycles(notes: &Notes, case: &Case<'_>) -> bool {
+    let each = field(case.text, "each ");
     let mut count: u64 = 0;
-    for _ in 0..cycles {
+    for _ in 0..case.end {
         let Some(behind) = notes.behind(count, each) else {
             return false;
         };
@@ -148,40 +117,39 @@ fn are_cycles(notes: &Notes, each: &str, cycles: u64) -> bool {
     count == notes.count()
 }
 
-// Whether the network of a plan has these calls in each of its cycles, if it is run in a way.
+// Whether the network of a plan has the calls of the case in each of its cycles, if it is run in a way.
 fn is_each<Z: Streams>(
     alloc: Global,
     plan: &Plan,
     inputs: &Trace,
+    case: &Case<'_>,
     way: Way,
-    each: &str,
-    cycles: u64,
 ) -> bool
     requires run { IsToRun plan.now inputs.now.columns inputs.now.rows Z.flow }
     requires alone { NeedsNone plan.now }
 {
     match Notes::new(alloc) {
         Ok(notes) => {
-            runs::<Z>(alloc, plan, inputs, way, &notes) && are_cycles(&notes, each, cycles)
+            let what = Try::Calls(way, &notes);
+            is_tried::<Z>(alloc, plan, inputs, case, &what) && are_cycles(&notes, case)
         }
         Err(_) => false,
     }
 }
 
-// Whether the network of a plan has these calls in each of its cycles, cycle by cycle and by an order. Without words any are right.
+// Whether the network of a plan has the calls of the case in each of its cycles, cycle by cycle and by an order. Without calls in the case any are right.
 pub(crate) fn is_each_alike<Z: Streams>(
     alloc: Global,
     plan: &Plan,
     inputs: &Trace,
-    each: &str,
-    cycles: u64,
+    case: &Case<'_>,
 ) -> bool
     requires run { IsToRun plan.now inputs.now.columns inputs.now.rows Z.flow }
     requires alone { NeedsNone plan.now }
 {
-    if each.is_empty() {
+    if field(case.text, "each ").is_empty() {
         return true;
     }
-    is_each::<Z>(alloc, plan, inputs, Way::ByCycles, each, cycles)
-        && is_each::<Z>(alloc, plan, inputs, Way::ByOrder, each, cycles)
+    is_each::<Z>(alloc, plan, inputs, case, Way::ByCycles)
+        && is_each::<Z>(alloc, plan, inputs, case, Way::ByOrder)
 }

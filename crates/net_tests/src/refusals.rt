@@ -1,13 +1,13 @@
 //! gg_net: steps that are refused, and runs that go on after them.
 ghost use Rattle.gg_build.specs.inside.Build.{IsToRun, NeedsNone};
 
-use crate::built::build_alone;
+use crate::built::TestHost;
 use crate::measures::run_alike;
 use crate::networks::{Case, event_of, goes_once};
-use gg_bridge::Echo;
-use gg_build::Node;
+use crate::tries::{Try, is_tried};
 use gg_cut_plan::Plan;
 use gg_net::{Net, StepRefusal, Streams};
+use gg_node::Host;
 use gg_trace::Trace;
 use std::alloc::Global;
 
@@ -23,7 +23,7 @@ fn is_cause(alloc: Global, found: Option<StepRefusal>, cause: &str) -> bool {
 }
 
 // Whether a step is refused, maybe after others, for this cause. It is tested, and then tried twice.
-fn refuses<Z: Streams>(alloc: Global, net: &mut Net<Node<'_, Echo>, Z>, refusal: &str) -> bool {
+fn refuses<H: Host, Z: Streams>(alloc: Global, net: &mut Net<H, Z>, refusal: &str) -> bool {
     let Some((what, cause)) = refusal.split_once(": ") else {
         return false;
     };
@@ -35,26 +35,15 @@ fn refuses<Z: Streams>(alloc: Global, net: &mut Net<Node<'_, Echo>, Z>, refusal:
         && is_cause(alloc, net.step(event).err(), cause)
 }
 
-// Whether a step is refused, and the network of a plan then runs to the end of an undisturbed run.
-fn is_refused<Z: Streams>(
+// Whether a step is refused, and the two networks of a plan then end alike.
+pub(crate) fn is_refused<H: TestHost, Z: Streams>(
     alloc: Global,
-    plan: &Plan,
-    inputs: &Trace,
+    one: &mut Net<H, Z>,
+    other: &mut Net<H, Z>,
     case: &Case<'_>,
     refusal: &str,
-) -> bool
-    requires run { IsToRun plan.now inputs.now.columns inputs.now.rows Z.flow }
-    requires alone { NeedsNone plan.now }
-{
-    match build_alone::<Z>(alloc, plan, inputs) {
-        Ok(mut one) => match build_alone::<Z>(alloc, plan, inputs) {
-            Ok(mut other) => {
-                refuses(alloc, &mut one, refusal) && run_alike(&mut one, &mut other, case)
-            }
-            Err(_) => false,
-        },
-        Err(_) => false,
-    }
+) -> bool {
+    refuses(alloc, one, refusal) && run_alike(one, other, case)
 }
 
 // Whether each refusal of a case comes, and the network of a plan then runs to the end of an undisturbed run.
@@ -69,7 +58,7 @@ pub(crate) fn are_refused<Z: Streams>(
 {
     for line in case.text.lines() {
         if let Some(refusal) = line.strip_prefix("refuses ") {
-            if !is_refused::<Z>(alloc, plan, inputs, case, refusal) {
+            if !is_tried::<Z>(alloc, plan, inputs, case, &Try::Refusal(refusal)) {
                 return false;
             }
         }

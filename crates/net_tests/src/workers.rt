@@ -2,6 +2,6 @@
 //! come from circuits as texts.
 
 mod beside;
-mod optional_node;
+mod optional_host;
 mod runs;
 mod tables;

@@ -9,10 +9,11 @@ ghost use Rattle.gg_flat.specs.State.{IsState};
 ghost use Rattle.gg_part.specs.KeepsToTree.{KeepsToTree};
 ghost use Rattle.gg_cut_reference.specs.whole.Whole.{HasFreeFronts};
 
+use crate::built::TestHost;
 use crate::reading::{design_of, inputs_of, request_of};
 use crate::texts::{DEEP, DEEP_TRACE};
 use gg_bridge::Echo;
-use gg_build::{Begin, Node, build_from};
+use gg_build::{Begin, build_from};
 use gg_clocks::{Ratio, Timing};
 use gg_cut::cut;
 use gg_cut_plan::{Models, Plan};
@@ -83,7 +84,7 @@ fn begin_in(alloc: Global, state: State) -> Begin
 }
 
 // Whether the last machine is a tray that keeps these values, starting at cycle 2, and none of a cycle before.
-fn keeps_from_two<Z: Streams>(net: &Net<Node<'_, Echo>, Z>, outputs: &[u128]) -> bool {
+fn keeps_from_two<H: TestHost, Z: Streams>(net: &Net<H, Z>, outputs: &[u128]) -> bool {
     net.within_limits();
     let machines = net.machines();
     if machines == 0 {
@@ -92,15 +93,15 @@ fn keeps_from_two<Z: Streams>(net: &Net<Node<'_, Echo>, Z>, outputs: &[u128]) ->
     let tray = net.host((machines - 1) as u32);
     for (cycle, output) in outputs.iter().enumerate() {
         let kept = if cycle < 2 { None } else { Some(*output) };
-        if tray.value(cycle as u64) != kept {
+        if tray.kept(cycle as u64) != kept {
             return false;
         }
     }
-    tray.value(outputs.len() as u64).is_none()
+    tray.kept(outputs.len() as u64).is_none()
 }
 
 // Whether a network begins at cycle 2 and then gives these outputs.
-fn gives_from_two<Z: Streams>(mut net: Net<Node<'_, Echo>, Z>, outputs: &[u128]) -> bool {
+fn gives_from_two<H: TestHost, Z: Streams>(mut net: Net<H, Z>, outputs: &[u128]) -> bool {
     let begins = 0 < net.machines() && net.cycle(0) == 2;
     run_to_end(&mut net);
     begins && keeps_from_two(&net, outputs)

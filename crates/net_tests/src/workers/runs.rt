@@ -8,10 +8,10 @@ ghost use Rattle.gg_part.specs.KeepsToTree.{KeepsToTree};
 ghost use Rattle.gg_cut_plan.specs.Held.{AreHeldOnce};
 ghost use Rattle.gg_cut_reference.specs.whole.Whole.{HasFreeFronts};
 
-use crate::built::{build_alone, is_at_most, keeps, value_of};
+use crate::built::{TestHost, build_alone, keeps, may_go_to};
 use crate::cases::{circuit_of, field, trace_of};
 use crate::reading::{design_of, inputs_of, request_of};
-use crate::workers::optional_node::{OptionalNode, beside_none};
+use crate::workers::optional_host::{OptionalHost, beside_none};
 use gg_bridge::Echo;
 use gg_build::Node;
 use gg_cut::cut;
@@ -20,6 +20,7 @@ use gg_io::Gate;
 use gg_link::Link;
 use gg_measure::{Order, left, run_by, run_to_end};
 use gg_net::{Net, Streams};
+use gg_node::Host;
 use gg_order::Design;
 use gg_partfile::Request;
 use gg_trace::Trace;
@@ -45,58 +46,31 @@ pub(crate) fn row_of(line: &str) -> Option<Row> {
 }
 
 // Brings a network to a cycle, if that lies before it. Returns the order that was noted on the way; it is empty if the network was there.
-fn bring<Z: Streams>(alloc: Global, net: &mut Net<Node<'_, Echo>, Z>, cycle: u64) -> Order {
+fn bring<H: Host, Z: Streams>(alloc: Global, net: &mut Net<H, Z>, cycle: u64) -> Order {
     let mut order = match Order::new(alloc, net) {
         Ok(order) => order,
         Err(_) => Order::none(alloc),
     };
-    if cycle <= net.end() && is_at_most(net, cycle) {
+    if may_go_to(net, cycle) {
         run_by(net, &mut order, cycle);
     }
     order
 }
 
 // Whether a network is as expected after a run, and at its end.
-fn ends<Z: Streams>(net: &mut Net<Node<'_, Echo>, Z>, case: &str, row: Row) -> bool {
+fn ends<H: TestHost, Z: Streams>(net: &mut Net<H, Z>, case: &str, row: Row) -> bool {
     let (_, _, _, least, most) = row;
     let rest = left(net);
     run_to_end(net);
     least <= rest && rest <= most && left(net) == 0 && keeps(net, field(case, "keeps "))
 }
 
-// Whether the last machine keeps these values, one for each cycle, starting at cycle 0.
-fn keeps_beside<Z: Streams>(net: &Net<OptionalNode<'_>, Z>, values: &str) -> bool {
-    net.within_limits();
-    let machines = net.machines();
-    if machines == 0 {
-        return false;
-    }
-    let tray = net.host((machines - 1) as u32);
-    let mut cycle: u64 = 0;
-    for digits in values.split(' ') {
-        let value = value_of(digits);
-        if value.is_none() || tray.value(cycle) != value {
-            return false;
-        }
-        cycle = cycle.saturating_add(1);
-    }
-    tray.value(cycle).is_none()
-}
-
-// Whether such a network is as expected after a run, and at its end.
-fn ends_beside<Z: Streams>(net: &mut Net<OptionalNode<'_>, Z>, case: &str, row: Row) -> bool {
-    let (_, _, _, least, most) = row;
-    let rest = left(net);
-    run_to_end(net);
-    least <= rest && rest <= most && left(net) == 0 && keeps_beside(net, field(case, "keeps "))
-}
-
-// Whether a run of such a network ends as expected.
-fn goes_beside<R: Threads + Sync, L: Link, Z: Streams, G: Gate + Sync>(
+// Whether the run of a network by an order ends as expected.
+fn ends_by<R: Threads + Sync, L: Link, H: TestHost, Z: Streams, G: Gate + Sync>(
     rt: &R,
     home: L::Home,
     alloc: Global,
-    net: Net<OptionalNode<'_>, Z>,
+    net: Net<H, Z>,
     order: &Order,
     case: &str,
     row: Row,
@@ -104,33 +78,30 @@ fn goes_beside<R: Threads + Sync, L: Link, Z: Streams, G: Gate + Sync>(
 ) -> bool {
     let (_, workers, upto, _, _) = row;
     let workers = workers.min(64);
-    match work::<R, OptionalNode<'_>, L, Z, G>(rt, home, alloc, net, workers, upto, order, gate) {
-        Ok(mut net) => ends_beside(&mut net, case, row),
+    match work::<R, H, L, Z, G>(rt, home, alloc, net, workers, upto, order, gate) {
+        Ok(mut net) => ends(&mut net, case, row),
         Err(_) => false,
     }
 }
 
-// Whether a run of a network that is before its first cycle ends as expected.
-fn goes<R: Threads + Sync, L: Link, Z: Streams, G: Gate + Sync>(
+// Whether the run of a network that is before its first cycle ends as expected.
+fn goes<R: Threads + Sync, L: Link, H: TestHost, Z: Streams, G: Gate + Sync>(
     rt: &R,
     home: L::Home,
     alloc: Global,
-    mut net: Net<Node<'_, Echo>, Z>,
+    mut net: Net<H, Z>,
     case: &str,
     row: Row,
     gate: &G,
 ) -> bool {
-    let (begin, workers, upto, _, _) = row;
-    let order = bring(alloc, &mut net, begin);
-    if !field(case, "beside ").is_empty() {
-        return match beside_none::<Z>(alloc, net) {
-            Ok(net) => goes_beside::<R, L, Z, G>(rt, home, alloc, net, &order, case, row, gate),
-            Err(_) => false,
-        };
+    let order = bring(alloc, &mut net, row.0);
+    if field(case, "beside ").is_empty() {
+        return ends_by::<R, L, H, Z, G>(rt, home, alloc, net, &order, case, row, gate);
     }
-    let workers = workers.min(64);
-    match work::<R, Node<'_, Echo>, L, Z, G>(rt, home, alloc, net, workers, upto, &order, gate) {
-        Ok(mut net) => ends(&mut net, case, row),
+    match beside_none(alloc, net) {
+        Ok(net) => {
+            ends_by::<R, L, OptionalHost<H>, Z, G>(rt, home, alloc, net, &order, case, row, gate)
+        }
         Err(_) => false,
     }
 }
@@ -159,7 +130,7 @@ fn is_plan_run<R: Threads + Sync, L: Link, Z: Streams, G: Gate + Sync>(
     requires alone { NeedsNone plan.now }
 {
     match build_alone::<Z>(alloc, plan, inputs) {
-        Ok(net) => goes::<R, L, Z, G>(rt, home, alloc, net, case.text, row, gate),
+        Ok(net) => goes::<R, L, Node<'_, Echo>, Z, G>(rt, home, alloc, net, case.text, row, gate),
         Err(_) => false,
     }
 }
