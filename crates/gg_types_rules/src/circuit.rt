@@ -93,17 +93,25 @@ fn judge_modules(alloc: Global, names: &Namespace) -> Result<Tables, CheckFault>
     ensures own { IfOk result (λ tables. TellModules names.now.modules (length names.now.modules) tables.own.items) }
     ensures clocks { IfOk result (λ tables. TellAllClocks names.now.modules (length names.now.modules) tables.clocks.items) }
 {
-    let mut own = Vec::new(alloc);
-    let mut clocks = Vec::new(alloc);
+    let mut tables = Tables {
+        own: Vec::new(alloc),
+        clocks: Vec::new(alloc),
+    };
     for number in 0..names.node_count() {
-        let Judged {
-            own: types,
-            clocks: numbers,
-        } = judge_module(alloc, names, number)?;
-        add_list(&mut own, types)?;
-        add_list(&mut clocks, numbers)?;
+        let judged = judge_module(alloc, names, number)?;
+        add_module(&mut tables, judged)?;
     }
-    Ok(Tables { own, clocks })
+    Ok(tables)
+}
+
+// Adds what is known of the names of the next module.
+fn add_module(tables: &mut Tables, judged: Judged) -> Result<(), AllocError>
+    ensures own { IfOk result (λ _. tables.new.own.items ≡ tables.old.own.items ++ judged.own.items ∷ []) }
+    ensures clocks { IfOk result (λ _. tables.new.clocks.items ≡ tables.old.clocks.items ++ judged.clocks.items ∷ []) }
+{
+    let Judged { own, clocks } = judged;
+    add_list(&mut tables.own, own)?;
+    add_list(&mut tables.clocks, clocks)
 }
 
 // Adds a list as the last.
