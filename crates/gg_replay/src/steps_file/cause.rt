@@ -1,6 +1,6 @@
 //! The text of the cause of a refused step.
 
-ghost use Rattle.std.specs.Prelude.{◌≡◌, IfOk, string_bytes};
+ghost use Rattle.std.specs.Prelude.{◌≡◌, ◌++◌, IfOk, string_bytes};
 ghost use Rattle.gg_replay.specs.steps_file.Cause.{cause_text};
 
 use crate::steps_file::naming::StepNames;
@@ -30,29 +30,35 @@ pub fn cause_text(
         StepRefusal::Ended => String::from_str(alloc, "Ended"),
         StepRefusal::Latched => String::from_str(alloc, "Latched"),
         StepRefusal::Fired => String::from_str(alloc, "Fired"),
-        StepRefusal::NoToken { channel } => format!(in alloc;
-            "NoToken {}",
-            names.channel_name(channel)
-        ),
-        StepRefusal::NeedsInput { channel } => format!(in alloc;
-            "NeedsInput {}",
-            names.channel_name(channel)
-        ),
+        StepRefusal::NoToken { channel } => {
+            with_name(alloc, "NoToken ", names.channel_name(channel))
+        }
+        StepRefusal::NeedsInput { channel } => {
+            with_name(alloc, "NeedsInput ", names.channel_name(channel))
+        }
         StepRefusal::Full { channel, len } => format!(in alloc;
             "Full {} {len}",
             names.channel_name(channel)
         ),
-        StepRefusal::Order { due } => format!(in alloc;
-            "Order {}",
-            names.port_name(step, due).unwrap_or("-")
-        ),
-        StepRefusal::Unfired { channel } => format!(in alloc;
-            "Unfired {}",
-            names.channel_name(channel)
-        ),
-        StepRefusal::Unserved { port } => format!(in alloc;
-            "Unserved {}",
-            names.port_name(step, port).unwrap_or("")
-        ),
+        StepRefusal::Order { due } => {
+            with_name(alloc, "Order ", names.port_name(step, due).unwrap_or("-"))
+        }
+        StepRefusal::Unfired { channel } => {
+            with_name(alloc, "Unfired ", names.channel_name(channel))
+        }
+        StepRefusal::Unserved { port } => {
+            with_name(
+                alloc,
+                "Unserved ",
+                names.port_name(step, port).unwrap_or(""),
+            )
+        }
     }
+}
+
+// A word and a name after it.
+fn with_name(alloc: Global, word: &str, name: &str) -> Result<String, AllocError>
+    ensures { IfOk result (λ text. string_bytes text ≡ word.now ++ name.now) }
+{
+    format!(in alloc; "{word}{name}")
 }

@@ -129,9 +129,16 @@ impl<'a> StepNames<'a> {
         ensures { option_map (λ name. name.now) result ≡ slice_get (step_ports self.now step) port }
     {
         match step {
-            Some(Event::Serve { machine, .. }) => self.ports.get(machine as usize)?.name(port),
-            Some(Event::Finish { machine }) => self.ports.get(machine as usize)?.name(port),
+            Some(Event::Serve { machine, .. }) => self.name_in(machine, port),
+            Some(Event::Finish { machine }) => self.name_in(machine, port),
             _ => None,
         }
+    }
+
+    // The name of a port of a machine, if there is one with this number.
+    fn name_in(&self, machine: u32, port: u32) -> Option<&'a str>
+        ensures { option_map (λ name. name.now) result ≡ slice_get (ports_at self.now machine) port }
+    {
+        self.ports.get(machine as usize)?.name(port)
     }
 }
