@@ -9,6 +9,7 @@
 --      7      connect o, r
 --      8      r <= UInt<8>(0b101)
 use Rattle.std.proofs.Common.{ℕ, false, inl, inr, List, [], ◌∷◌, Some, codes, refl, lit≤}
+use Rattle.std.specs.Str.Lines.{lines}
 use Rattle.gg_bits.specs.declared.types.Kind.TheVariants.{UInt}
 use Rattle.gg_lex.specs.declared.token.Tok.{Tok}
 use Rattle.gg_lex.specs.declared.token.Tok.TheVariants.{Word, Number, Symbol}
@@ -19,11 +20,11 @@ use Rattle.gg_ast.specs.declared.expression.Reference.TheVariants.{Local}
 use Rattle.gg_ast.specs.declared.module.Direction.TheVariants.{Input, Output}
 use Rattle.gg_ast.specs.declared.module.GroundType.TheVariants as ty
 use Rattle.gg_ast.specs.declared.statement.StmtKind.TheVariants.{Register, Connect}
-use Rattle.gg_ast.specs.Row.{numbered, VersionRow, CircuitRow, ModuleRow, PortRow, RegisterResetRow, ConnectRow}
+use Rattle.gg_ast.specs.Row.{Numbered, numbered, VersionRow, CircuitRow, ModuleRow, PortRow, RegisterResetRow, ConnectRow}
 use Rattle.gg_ast.specs.Term.{Term, NamedTerm, ConstantTerm}
 use Rattle.gg_ast.specs.Tree.{CircuitTree}
 use Rattle.gg_read.specs.declared.text.ReadFault.TheVariants.{Syntax}
-use Rattle.gg_read.specs.Text.{AfterVersion, AfterCircuit, InPorts, InStatements, Spells, HasReadFault}
+use Rattle.gg_read.specs.Text.{AtStart, AfterVersion, AfterCircuit, InPorts, InStatements, LineTokens, AreLineTokens, AreRows, Spells, HasReadFault}
 use Rattle.gg_read.proofs.WorkedForms.{text_of, holding, form, no_row, shallow}
 
 abbrev text : List ℕ
@@ -74,15 +75,28 @@ connected = Word (codes "connect") ∷ Word (codes "o") ∷ Symbol mark.Comma �
 abbrev driven : List Tok
 driven = Word (codes "r") ∷ Symbol mark.Connect ∷ Word (codes "UInt") ∷ Symbol mark.Less ∷ Number (codes "8") ∷ Symbol mark.Greater ∷ Symbol mark.OpenParen ∷ Number (codes "0b101") ∷ Symbol mark.CloseParen ∷ []
 
+-- the lines' tokens and rows, each apart: under `unfolding` they take ten times as long to check
+abbrev held : List LineTokens
+held = holding version ∷ holding header ∷ holding begun ∷ holding clock ∷ holding port ∷ holding register ∷ holding connected ∷ holding driven ∷ []
+
+tokens : AreLineTokens (lines text) held
+tokens = (word refl refl (word refl refl (number refl refl (one refl refl (number refl refl (one refl refl (number refl refl (ended tt))))))), (word refl refl (word refl refl (one refl refl (ended tt))), (word refl refl (word refl refl (word refl refl (one refl refl (ended tt)))), (word refl refl (word refl refl (one refl refl (word refl refl (ended tt)))), (word refl refl (word refl refl (one refl refl (word refl refl (one refl refl (number refl refl (one refl refl (ended tt))))))), (word refl refl (word refl refl (one refl refl (word refl refl (one refl refl (number refl refl (one refl refl (one refl refl (word refl refl (one refl refl (word refl refl (one refl refl (number refl refl (one refl refl (one refl refl (number refl refl (one refl refl (one refl refl (word refl refl (ended refl))))))))))))))))))), (word refl refl (word refl refl (one refl refl (word refl refl (ended tt)))), (word refl refl (two refl (lit≤ tt) refl (word refl refl (one refl refl (number refl refl (one refl refl (one refl refl (number refl refl (one refl refl (ended tt))))))))), tt))))))))
+
+abbrev rows : List Numbered
+rows = numbered 1 (VersionRow 4 0 0) ∷ numbered 2 (CircuitRow (codes "T")) ∷ numbered 3 (ModuleRow (codes "T")) ∷ numbered 4 (PortRow Input (codes "k") ty.Clock) ∷ numbered 5 (PortRow Output (codes "o") (ty.UInt 8)) ∷ numbered 6 (RegisterResetRow (codes "r") (ty.UInt 8) (NamedTerm (Local (codes "k"))) zero (NamedTerm (Local (codes "r")))) ∷ numbered 7 (ConnectRow (Local (codes "o")) (NamedTerm (Local (codes "r")))) ∷ numbered 8 (ConnectRow (Local (codes "r")) five) ∷ []
+
+read : AreRows AtStart 1 held rows InStatements
+read = inr (VersionRow 4 0 0, AfterVersion, _, form refl refl, refl, inr (CircuitRow (codes "T"), AfterCircuit, _, form refl refl, refl, inr (ModuleRow (codes "T"), InPorts, _, form refl refl, refl, inr (PortRow Input (codes "k") ty.Clock, InPorts, _, form refl refl, refl, inr (PortRow Output (codes "o") (ty.UInt 8), InPorts, _, form refl refl, refl, inr (RegisterResetRow (codes "r") (ty.UInt 8) (NamedTerm (Local (codes "k"))) zero (NamedTerm (Local (codes "r"))), InStatements, _, form refl refl, refl, inr (ConnectRow (Local (codes "o")) (NamedTerm (Local (codes "r"))), InStatements, _, form refl refl, refl, inr (ConnectRow (Local (codes "r")) five, InStatements, _, form refl refl, refl, (refl, refl)))))))))
+
 text_spells : Spells text circuit
 unfolding lib.Utf8.encode
 text_spells = record {
   utf8 = (text, (refl, refl));
-  held = holding version ∷ holding header ∷ holding begun ∷ holding clock ∷ holding port ∷ holding register ∷ holding connected ∷ holding driven ∷ [];
-  tokens = (word refl refl (word refl refl (number refl refl (one refl refl (number refl refl (one refl refl (number refl refl (ended tt))))))), (word refl refl (word refl refl (one refl refl (ended tt))), (word refl refl (word refl refl (word refl refl (one refl refl (ended tt)))), (word refl refl (word refl refl (one refl refl (word refl refl (ended tt)))), (word refl refl (word refl refl (one refl refl (word refl refl (one refl refl (number refl refl (one refl refl (ended tt))))))), (word refl refl (word refl refl (one refl refl (word refl refl (one refl refl (number refl refl (one refl refl (one refl refl (word refl refl (one refl refl (word refl refl (one refl refl (number refl refl (one refl refl (one refl refl (number refl refl (one refl refl (one refl refl (word refl refl (ended refl))))))))))))))))))), (word refl refl (word refl refl (one refl refl (word refl refl (ended tt)))), (word refl refl (two refl (lit≤ tt) refl (word refl refl (one refl refl (number refl refl (one refl refl (one refl refl (number refl refl (one refl refl (ended tt))))))))), tt))))))));
+  held = held;
+  tokens = tokens;
   last = InStatements;
-  rows = numbered 1 (VersionRow 4 0 0) ∷ numbered 2 (CircuitRow (codes "T")) ∷ numbered 3 (ModuleRow (codes "T")) ∷ numbered 4 (PortRow Input (codes "k") ty.Clock) ∷ numbered 5 (PortRow Output (codes "o") (ty.UInt 8)) ∷ numbered 6 (RegisterResetRow (codes "r") (ty.UInt 8) (NamedTerm (Local (codes "k"))) zero (NamedTerm (Local (codes "r")))) ∷ numbered 7 (ConnectRow (Local (codes "o")) (NamedTerm (Local (codes "r")))) ∷ numbered 8 (ConnectRow (Local (codes "r")) five) ∷ [];
-  read = inr (VersionRow 4 0 0, AfterVersion, _, form refl refl, refl, inr (CircuitRow (codes "T"), AfterCircuit, _, form refl refl, refl, inr (ModuleRow (codes "T"), InPorts, _, form refl refl, refl, inr (PortRow Input (codes "k") ty.Clock, InPorts, _, form refl refl, refl, inr (PortRow Output (codes "o") (ty.UInt 8), InPorts, _, form refl refl, refl, inr (RegisterResetRow (codes "r") (ty.UInt 8) (NamedTerm (Local (codes "k"))) zero (NamedTerm (Local (codes "r"))), InStatements, _, form refl refl, refl, inr (ConnectRow (Local (codes "o")) (NamedTerm (Local (codes "r"))), InStatements, _, form refl refl, refl, inr (ConnectRow (Local (codes "r")) five, InStatements, _, form refl refl, refl, (refl, refl)))))))));
+  rows = rows;
+  read = read;
   whole = tt;
   circuit_rows = refl;
 }
