@@ -102,7 +102,14 @@ fn has_driver(signals: &[Signal], latency: Latency, m: usize, r: usize, reader: 
     if reader.word as usize >= signals.len() {
         return false;
     }
-    match (&signals[reader.word as usize].driver, latency) {
+    is_driver_of(&signals[reader.word as usize].driver, latency, m, r, reader)
+}
+
+// Whether this is the driver that the data of a reader must have.
+fn is_driver_of(driver: &Driver, latency: Latency, m: usize, r: usize, reader: &Reader) -> bool
+    ensures { IsTrue result ↔ (driver.now ≡ reader_driver latency m r reader.now) }
+{
+    match (driver, latency) {
         (Driver::MemoryWord(memory, port, addr, en), Latency::Zero) => {
             *memory as usize == m && *port as usize == r && *addr == reader.addr && *en == reader.en
         }

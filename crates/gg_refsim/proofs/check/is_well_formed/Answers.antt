@@ -1,5 +1,25 @@
-use Rattle.std.proofs.Common.{refl}
+use Rattle.std.proofs.Common.{refl, sym, true≢false}
 use Rattle.gg_refsim.proofs.check.is_well_formed.Goals as goal
+
+pub returns-then-not-are_ins : goal.returns-then-not-are_ins
+returns-then-not-are_ins c = (λ no. absurd (true≢false (sym no)), λ formed. c.if-not-are_ins.ensures.1 formed.ins)
+
+pub returns-then-not-are_outs : goal.returns-then-not-are_outs
+returns-then-not-are_outs c = (λ no. absurd (true≢false (sym no)), λ formed. c.if-not-are_outs.ensures.1 formed.outs)
+
+pub returns-then-not-may_drive_all : goal.returns-then-not-may_drive_all
+returns-then-not-may_drive_all c = (λ no. absurd (true≢false (sym no)), λ formed. c.if-not-may_drive_all.ensures.1 formed.drivers)
+
+pub returns-then-not-are_read : goal.returns-then-not-are_read
+returns-then-not-are_read c = (λ no. absurd (true≢false (sym no)), λ formed. c.if-not-are_read.ensures.1 formed.reads)
+
+pub returns-then-not-are_clocked : goal.returns-then-not-are_clocked
+returns-then-not-are_clocked c =
+    (λ no. absurd (true≢false (sym no)), λ formed. c.if-not-are_clocked.ensures.1 (formed.register_clocks, formed.memory_clocks))
+
+pub returns-then-not-are_memories : goal.returns-then-not-are_memories
+returns-then-not-are_memories c =
+    (λ no. absurd (true≢false (sym no)), λ formed. c.if-not-are_memories.ensures.1 (rw (c.signals.ensures, c.memories.ensures) formed.memories))
 
 pub returns : goal.returns
 returns c =
