@@ -23,7 +23,8 @@ use Rattle.gg_cut_plan.specs.Fault.{range_fault}
 use Rattle.gg_bits.specs.Lists.{first_of}
 use Rattle.gg_cut_plan.specs.Channels.{capacity_of}
 use Rattle.gg_cut_plan.specs.Direct.{Hub, is_piped, plan_hub, plan_routes}
-use Rattle.gg_cut_plan.specs.Seated.{Bridges, plan_bridges, plan_wires}
+use Rattle.gg_cut_plan.specs.Ports.{Bridges, plan_bridges}
+use Rattle.gg_cut_plan.specs.Seated.{plan_wires}
 use Rattle.gg_cut_reference.proofs.FittingLemmas.LowLemmas.{givens-alike, low-from, low-to, signals-alike}
 use Rattle.gg_flat_tree.specs.Tree.{InstanceTree, path_at}
 use Rattle.gg_cut.proofs.FaultlessLemmas.{capacity-sound}

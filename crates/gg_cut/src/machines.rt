@@ -5,7 +5,7 @@ ghost use Rattle.gg_flat_tree.specs.Tree.{path_at};
 ghost use Rattle.gg_cut_plan.specs.Alike.{AreAlike};
 ghost use Rattle.gg_cut_plan.specs.Hosts.{leader};
 ghost use Rattle.gg_cut_plan.specs.Machines.{first_source};
-ghost use Rattle.gg_cut_plan.specs.Seated.{first_bridge};
+ghost use Rattle.gg_cut_plan.specs.Ports.{first_bridge};
 ghost use Rattle.gg_cut_plan.specs.declared.plan.Body.TheVariants.{Bridge};
 ghost use Rattle.gg_cut_split.specs.inside.Again.{IsUnitAgain};
 ghost use Rattle.gg_cut_parts.specs.inside.Draft.{IsDraft, IsMachineDraft};

@@ -11,7 +11,7 @@ use Rattle.gg_partfile.specs.Size.{all_driven, all_seen}
 use Rattle.gg_partfile.specs.declared.request.Request.{Request}
 use Rattle.gg_cut_plan.proofs.RangeLemmas.{filter-more}
 use Rattle.gg_cut_plan.specs.Listed.{is_among}
-use Rattle.gg_cut_plan.specs.Seated.{Bridges, open_ins, open_outs, output_count, plan_bridges}
+use Rattle.gg_cut_plan.specs.Ports.{Bridges, open_ins, open_outs, output_count, plan_bridges}
 use Rattle.gg_cut_reference.proofs.FittingLemmas.OpenLemmas.{undriven-is, unseen-is}
 use Rattle.gg_cut_machines.specs.inside.Seats.{AreTakers, is_open}
 use Rattle.gg_cut_machines.proofs.SeatLemmas.{open-test}

@@ -12,7 +12,7 @@ use Rattle.gg_cut_plan.specs.Listed.{is_among, place_of}
 use Rattle.gg_cut_plan.specs.Channels.{wire}
 use Rattle.gg_cut_plan.specs.declared.wires.Wire.{Wire}
 use Rattle.gg_cut_plan.specs.Plan.{port_place, wire_at}
-use Rattle.gg_cut_plan.specs.Seated.{lister}
+use Rattle.gg_cut_plan.specs.Ports.{lister}
 use Rattle.gg_cut_plan.proofs.FindLemmas.{rest-at}
 use Rattle.gg_cut_plan.proofs.PathLemmas.{first_place-Some}
 use Rattle.gg_cut_machines.specs.inside.Seats.{one_more, ports_of}

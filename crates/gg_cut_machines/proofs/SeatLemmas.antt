@@ -12,13 +12,14 @@ use Rattle.gg_order.specs.Design.{Ordered}
 use Rattle.gg_partfile.specs.declared.request.BridgeEntry.{BridgeEntry}
 use Rattle.gg_partfile.specs.declared.request.Request.{Request}
 use Rattle.gg_cut_plan.specs.declared.wires.Wire.{Wire}
-use Rattle.gg_cut_plan.specs.Seated.{Bridges, undriven, unseen, first_bridge, first_kept_tray, lister, machine_end, plan_bridges, seat_of, seated}
-use Rattle.gg_cut_plan.specs.inside.Seated.{AreBridges}
+use Rattle.gg_cut_plan.specs.Ports.{Bridges, undriven, unseen, first_bridge, first_kept_tray, lister, machine_end, plan_bridges}
+use Rattle.gg_cut_plan.specs.Seated.{seat_of, seated}
+use Rattle.gg_cut_plan.specs.inside.Ports.{AreBridges}
 use Rattle.gg_bits.specs.Lists.{count_below, one_if, number_or}
 use Rattle.gg_cut_plan.specs.declared.listed.Listed.{Listed}
 use Rattle.gg_cut_plan.specs.Listed.{listed_of}
-use Rattle.gg_cut_reference.proofs.FittingLemmas.BridgeLemmas.{are-bridges}
-use Rattle.gg_cut_reference.proofs.FittingLemmas.CountLemmas.{before-same}
+use Rattle.gg_cut_plan.proofs.PortLemmas.{are-bridges}
+use Rattle.gg_cut_plan.proofs.CountLemmas.{before-same}
 use Rattle.gg_cut_reference.proofs.FittingLemmas.SeatedLemmas.{seat-known, seat-low, seat-source, seat-tray}
 use Rattle.gg_cut_machines.specs.inside.Seats.{AreTakers, is_open, one_more, ports_of, seat_by, wire_by}
 

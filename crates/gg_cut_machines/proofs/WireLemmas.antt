@@ -14,7 +14,8 @@ use Rattle.gg_cut_plan.specs.Machines.{first_source}
 use Rattle.gg_cut_plan.specs.Channels.{wire}
 use Rattle.gg_cut_plan.specs.Direct.{plan_hub, plan_routes}
 use Rattle.gg_cut_plan.specs.Plan.{wire_at}
-use Rattle.gg_cut_plan.specs.Seated.{Bridges, machine_end, plan_bridges, plan_wires, seat_of, seated_wire}
+use Rattle.gg_cut_plan.specs.Ports.{Bridges, machine_end, plan_bridges}
+use Rattle.gg_cut_plan.specs.Seated.{plan_wires, seat_of, seated_wire}
 use Rattle.gg_cut_reference.proofs.FittingLemmas.SeatedLemmas.{seat-known}
 use Rattle.gg_cut_machines.proofs.SeatLemmas.{plan-are, wires-as}
 use Rattle.gg_cut_routes.specs.inside.Routes.{AreRoutes}

@@ -2,8 +2,9 @@
 ghost use Rattle.std.specs.Prelude.{◌≡◌, ℕ, ◌<◌, ◌^◌, if◌then◌else◌, nat_lt, length, All, IfOk};
 ghost use Rattle.gg_flat.specs.Line.{value_at};
 ghost use Rattle.gg_flat_tree.specs.Tree.{path_at};
+ghost use Rattle.gg_partfile.specs.declared.request.BridgeEntry.{BridgeEntry};
 ghost use Rattle.gg_cut_plan.specs.Listed.{is_among};
-ghost use Rattle.gg_cut_plan.specs.Seated.{lister};
+ghost use Rattle.gg_cut_plan.specs.Ports.{lister};
 ghost use Rattle.gg_cut_machines.specs.inside.Seats.{one_more, ports_of};
 
 use gg_bits::Name;

@@ -2,7 +2,8 @@
 ghost use Rattle.std.specs.Prelude.{◌≡◌, ℕ, ◌+◌, ◌-◌, ◌<◌, ◌≤◌, ◌^◌, ◌++◌, ◌==◌, if◌then◌else◌, length, map, All, IfOk, OnOk};
 ghost use Rattle.std.specs.List.{range_with_len};
 ghost use Rattle.gg_flat.specs.Line.{value_at};
-ghost use Rattle.gg_cut_plan.specs.Seated.{machine_end, seat_of};
+ghost use Rattle.gg_cut_plan.specs.Ports.{machine_end};
+ghost use Rattle.gg_cut_plan.specs.Seated.{seat_of};
 ghost use Rattle.gg_bits.specs.Lists.{count_below};
 ghost use Rattle.gg_cut_parts.specs.inside.Draft.{IsDraft};
 ghost use Rattle.gg_cut_machines.specs.inside.Drafted.{draft_bridges, AreDraftSeats, AreDraftTakers, AreStarts};

@@ -8,10 +8,11 @@ use Rattle.gg_part.specs.declared.part.Part.{Part}
 use Rattle.gg_part.specs.Building.{AreHeld}
 use Rattle.gg_part.specs.inside.Clocking.{IsTimed}
 use Rattle.gg_partfile.specs.declared.request.Request.{Request}
+use Rattle.gg_partfile.specs.declared.request.BridgeEntry.{BridgeEntry}
 use Rattle.gg_cut_plan.specs.declared.listed.Listed.{Listed}
 use Rattle.gg_cut_plan.specs.Listed.{listed_of}
 use Rattle.gg_cut_plan.specs.Machines.{first_source}
-use Rattle.gg_cut_plan.specs.Direct.{Hub, hub_of, is_piped, plan_hub, routes, is_driven}
+use Rattle.gg_cut_plan.specs.Direct.{Hub, hub_of, is_piped, plan_hub, routes}
 use Rattle.gg_cut_plan.specs.Plan.{channels_from, givens_of, IsCutPart}
 use Rattle.gg_cut_split.specs.inside.Apart.{AreApart}
 use Rattle.gg_cut_routes.specs.inside.Share.{IsPlanShare}
@@ -20,10 +21,10 @@ use Rattle.gg_cut_routes.proofs.UnitLemmas.{ins-still, givens-still}
 use Rattle.gg_cut_routes.proofs.ChoiceLemmas.{had, has-still}
 use Rattle.gg_cut_parts.specs.inside.MovedPart.{IsUnitPart, IsUnitRouted, IsUnitShare}
 
-pub unit-routed : (design : Ordered) (listed : Listed) (piped driven : ℕ → Bool) (direct : Bool) (m : ℕ) → IsDesign design → KeepsToTree design.circuit design.tree → AreApart design.tree listed → m ≢ 0 → IsUnitRouted design listed (hub_of design.circuit design.tree listed piped driven direct) m
-unit-routed design listed piped driven direct m is keeps apart other =
-    let hub = hub_of design.circuit design.tree listed piped driven direct in
-    let base = plan-base design listed piped driven direct is keeps apart in
+pub unit-routed : (design : Ordered) (listed : Listed) (piped : ℕ → Bool) (entries : List BridgeEntry) (direct : Bool) (m : ℕ) → IsDesign design → KeepsToTree design.circuit design.tree → AreApart design.tree listed → m ≢ 0 → IsUnitRouted design listed (hub_of design.circuit design.tree listed piped entries direct) m
+unit-routed design listed piped entries direct m is keeps apart other =
+    let hub = hub_of design.circuit design.tree listed piped entries direct in
+    let base = plan-base design listed piped entries direct is keeps apart in
     record {
       signals = λ s. (had hub base m s, has-still hub base m s other);
       ins = ins-still hub base m other;
@@ -34,7 +35,7 @@ unit-routed design listed piped driven direct m is keeps apart other =
 pub plan-unit-routed : (design : Ordered) (request : Request) (listed : Listed) → listed ≡ listed_of design.tree request → IsDesign design → KeepsToTree design.circuit design.tree → AreApart design.tree listed → (m : ℕ) → m ≢ 0 → IsUnitRouted design listed (plan_hub design.circuit design.tree request) m
 plan-unit-routed design request listed same is keeps apart m other =
     subst (λ (l : Listed). IsUnitRouted design l (plan_hub design.circuit design.tree request) m) (sym same)
-    (unit-routed design (listed_of design.tree request) (is_piped design.circuit request) (is_driven design.circuit request) request.direct m is keeps (subst (AreApart design.tree) same apart) other)
+    (unit-routed design (listed_of design.tree request) (is_piped design.circuit request) request.bridges request.direct m is keeps (subst (AreApart design.tree) same apart) other)
 
 module _ (design : Ordered) (listed : Listed) (hub : Hub) (clocking : Clocking) (m : ℕ) (part : Part) (routed : IsUnitRouted design listed hub m) where
   pub to-unit : IsCutPart design listed hub m part → IsTimed part.piece part.held part.memories clocking.registers clocking.ports → IsUnitPart design listed clocking m (givens_of (routes hub) (channels_from (routes hub) m)) part

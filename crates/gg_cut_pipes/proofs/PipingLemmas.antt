@@ -1,5 +1,5 @@
 -- The tables of a plan make its reference circuit.
-use Rattle.std.proofs.Common.{◌≡◌, ◌≢◌, ℕ, zero, suc, ◌+◌, ◌<◌, ◌⊎◌, List, ◌++◌, Bool, true, false, Option, Some, None, codes, length, map, get_or, refl, sym, ◌∙◌, ap, subst, inl, inr, eq-eqb, arith}
+use Rattle.std.proofs.Common.{◌≡◌, ◌≢◌, ℕ, zero, suc, ◌+◌, ◌<◌, ◌⊎◌, List, [], ◌++◌, Bool, true, false, Option, Some, None, codes, length, map, get_or, refl, sym, ◌∙◌, ap, subst, inl, inr, eq-eqb, arith}
 use Rattle.std.specs.Prelude.{◌&&◌, ◌==◌, ◌^◌, All, AllPairs, Contains, filter, option_map, unwrap_or, replicate}
 use Rattle.std.specs.List.{list_any, range_with_len}
 use Rattle.std.proofs.lemmas.Bool.{and_from, and_parts, cases_Bool, eqb-true}
@@ -23,9 +23,10 @@ use Rattle.gg_cut_plan.specs.declared.wires.Wire.{Wire}
 use Rattle.gg_cut_plan.specs.Channels.{wire, wires_of}
 use Rattle.gg_cut_plan.specs.Listed.{first_place, listed_of, owner_of, owner_of_instance, memory_or, memory_owner}
 use Rattle.gg_cut_plan.specs.Machines.{first_source}
-use Rattle.gg_cut_plan.specs.Seated.{Bridges, seat_of, seated_wire, plan_bridges, plan_wires}
+use Rattle.gg_cut_plan.specs.Ports.{Bridges, plan_bridges}
+use Rattle.gg_cut_plan.specs.Seated.{seat_of, seated_wire, plan_wires}
 use Rattle.gg_cut_plan.specs.Plan.{wire_at, IsInner}
-use Rattle.gg_cut_plan.specs.Direct.{Hub, routes, plan_hub, is_piped, is_driven}
+use Rattle.gg_cut_plan.specs.Direct.{Hub, routes, plan_hub, is_piped}
 use Rattle.gg_cut_plan.proofs.PathLemmas.{first_place-Some}
 use Rattle.gg_cut_plan.proofs.OriginLemmas.{any-finds, finds-any, clash}
 use Rattle.gg_cut_plan.proofs.WireLemmas.{unit_or_hub-below}
@@ -169,7 +170,7 @@ module _ (design : Ordered) (plan : Plan) (is : IsDesign design) (can : CanPipe 
 
   module _ (owned : Owned) (owns : AreOwned design plan.listed owned) where
     wires-are : owned.wires ≡ hub.base
-    wires-are = owns.wires ∙ ap (wires_of circuit design.tree) can.is.listed
+    wires-are = owns.wires ∙ ap (λ (l : Listed). wires_of circuit design.tree l []) can.is.listed
 
     pub can-fill : CanFill design.circuit plan.channels (piped_signals (length design.circuit.signals) plan.channels) owned
     can-fill =
@@ -205,7 +206,7 @@ module _ (design : Ordered) (plan : Plan) (is : IsDesign design) (can : CanPipe 
       seen m s low = seen-is hub base tables pipes (seat_of bridges) takers m s (λ n. seat-low-is bridges m n low)
 
       maker : (s t : ℕ) → s < length circuit.signals → ((place : ℕ) → driver_at circuit s ≢ Input place) → seen_in tables (maker_of hub s) t ≡ seen_by hub (maker_of hub s) t
-      maker s t lt plain = seen (maker_of hub s) t (maker-low circuit design.tree listed is.formed can.keeps.fitting can.keeps.scoped (faultless-apart design can.request can.none can.keeps.fitting) hub.piped hub.driven hub.direct base s plain)
+      maker s t lt plain = seen (maker_of hub s) t (maker-low circuit design.tree listed is.formed can.keeps.fitting can.keeps.scoped (faultless-apart design can.request can.none can.keeps.fitting) hub.piped can.request.bridges hub.direct base s plain)
 
       -- the machine of the signal that holds a register, or the hub
       holder : (r t : ℕ) → r < length circuit.registers → seen_in tables (value_at tables.holders r) t ≡ seen_by hub (holder_of hub r) t
@@ -260,7 +261,7 @@ module _ (design : Ordered) (plan : Plan) (is : IsDesign design) (can : CanPipe 
       keeper-low : (k : ℕ) → keeper_of design.tree listed k < first_source listed
       keeper-low k = memory-low design.tree listed (unwrap_or (first_place (λ (memory : MemoryInstance). memory.memory == k) design.tree.memories) 0)
 
-      agreed : AreAgreed circuit (views_by tables) (views_in circuit design.tree listed (is_piped circuit can.request) (is_driven circuit can.request) can.request.direct)
+      agreed : AreAgreed circuit (views_by tables) (views_in circuit design.tree listed (is_piped circuit can.request) can.request.bridges can.request.direct)
       agreed =
           record {
             maker = λ s t lt named. ap (λ m. seen_in tables m t) (makers s lt) ∙ maker s t lt (not-input (driver_at circuit s) t named);
@@ -272,4 +273,4 @@ module _ (design : Ordered) (plan : Plan) (is : IsDesign design) (can : CanPipe 
       pub reference-is : reference_of design.circuit (views_by tables) (piped_signals (length design.circuit.signals) plan.channels) ≡ plan_reference design can.request
       reference-is =
           ap (reference_of circuit (views_by tables)) pipes-are
-          ∙ reference-agree circuit (views_by tables) (views_in circuit design.tree listed (is_piped circuit can.request) (is_driven circuit can.request) can.request.direct) (pipes_of hub) agreed
+          ∙ reference-agree circuit (views_by tables) (views_in circuit design.tree listed (is_piped circuit can.request) can.request.bridges can.request.direct) (pipes_of hub) agreed

@@ -3,6 +3,8 @@ pub mod WorkedCells
 pub mod WorkedDirect
 pub mod WorkedSeats
 pub mod PathLemmas
+pub mod CountLemmas
+pub mod PortLemmas
 pub mod FindLemmas
 pub mod RatioLemmas
 pub mod ChainLemmas

@@ -4,7 +4,7 @@ use Rattle.std.proofs.lemmas.List.{get_or-append-add, get_or-drop, get_or-map, g
 use Rattle.gg_flat_tree.specs.Tree.{path_at}
 use Rattle.gg_order.specs.Design.{Ordered}
 use Rattle.gg_cut_plan.specs.inside.Plan.{tray_names}
-use Rattle.gg_cut_plan.specs.Seated.{output_count}
+use Rattle.gg_cut_plan.specs.Ports.{output_count}
 
 module _ (design : Ordered) where
   abbrev outs : List ℕ

@@ -1,6 +1,6 @@
 -- Direct channels, and what leaves the hub, worked by hand.
 use Rattle.std.proofs.Common.{◌≡◌, ℕ, List, [], ◌∷◌, Bool, true, false, Option, Some, None, refl}
-use Rattle.std.specs.Prelude.{◌==◌, map}
+use Rattle.std.specs.Prelude.{◌==◌, codes, map}
 use Rattle.gg_bits.specs.declared.ops.Op1.TheVariants.{Not}
 use Rattle.gg_flat.specs.declared.line.Node.{Node}
 use Rattle.gg_flat.specs.declared.line.Op.TheVariants.{Ref, One}
@@ -10,6 +10,7 @@ use Rattle.gg_flat.specs.declared.piece.Signal.{Signal}
 use Rattle.gg_flat.specs.Line.{value_at}
 use Rattle.gg_flat.proofs.WorkedCircuits.{eight, nine, node}
 use Rattle.gg_flat.proofs.WorkedMemories.{signal, copy}
+use Rattle.gg_partfile.specs.declared.request.BridgeEntry.{BridgeEntry}
 use Rattle.gg_cut_plan.specs.declared.wires.Wire.{Wire}
 use Rattle.gg_cut_plan.specs.Channels.{wire}
 use Rattle.gg_cut_plan.proofs.WorkedPair.{circuit, tree, listed}
@@ -24,7 +25,7 @@ channel signal given producer consumer = record { signal = signal; given = given
 -- ---- two units that feed each other
 
 abbrev hub : Hub
-hub = hub_of circuit tree listed none none true
+hub = hub_of circuit tree listed none [] true
 
 -- signals: 0 x, 1 q, 2 a.x, 3 a.k, 4 a.p, 5 a.q, 6 b.m, 7 b.n
 pair-origins : map (origin hub) (0 ∷ 1 ∷ 2 ∷ 4 ∷ 7 ∷ []) ≡ Some 0 ∷ None ∷ None ∷ Some 4 ∷ Some 7 ∷ []
@@ -41,15 +42,18 @@ pair : routes hub ≡ channel 2 0 3 1 ∷ channel 3 7 2 1 ∷ channel 6 4 1 2 �
 pair = refl
 
 -- not asked for: all channels are as they were
-pair-plain : routes (hub_of circuit tree listed none none false) ≡ channel 0 0 3 0 ∷ channel 2 2 0 1 ∷ channel 3 3 0 1 ∷ channel 4 4 1 0 ∷ channel 5 5 1 0 ∷ channel 6 6 0 2 ∷ channel 7 7 2 0 ∷ channel 1 1 0 4 ∷ []
+pair-plain : routes (hub_of circuit tree listed none [] false) ≡ channel 0 0 3 0 ∷ channel 2 2 0 1 ∷ channel 3 3 0 1 ∷ channel 4 4 1 0 ∷ channel 5 5 1 0 ∷ channel 6 6 0 2 ∷ channel 7 7 2 0 ∷ channel 1 1 0 4 ∷ []
 pair-plain = refl
 
 -- `b.n` is piped: it is no origin, so `a.k` is not direct and `b.n` stays
-pair-piped : routes (hub_of circuit tree listed (λ s. s == 7) none true) ≡ channel 2 0 3 1 ∷ channel 3 3 0 1 ∷ channel 6 4 1 2 ∷ channel 7 7 2 0 ∷ channel 1 5 1 4 ∷ []
+pair-piped : routes (hub_of circuit tree listed (λ s. s == 7) [] true) ≡ channel 2 0 3 1 ∷ channel 3 3 0 1 ∷ channel 6 4 1 2 ∷ channel 7 7 2 0 ∷ channel 1 5 1 4 ∷ []
 pair-piped = refl
 
+abbrev drives_x : BridgeEntry
+drives_x = record { name = codes "e"; sees = []; drives = codes "x" ∷ [] }
+
 -- a bridge drives `x`: it is no origin, so `a.x` is not direct and `x` stays
-pair-driven : routes (hub_of circuit tree listed none (λ s. s == 0) true) ≡ channel 0 0 3 0 ∷ channel 2 2 0 1 ∷ channel 3 7 2 1 ∷ channel 6 4 1 2 ∷ channel 1 5 1 4 ∷ []
+pair-driven : routes (hub_of circuit tree listed none (drives_x ∷ []) true) ≡ channel 0 0 3 0 ∷ channel 2 2 0 1 ∷ channel 3 7 2 1 ∷ channel 6 4 1 2 ∷ channel 1 5 1 4 ∷ []
 pair-driven = refl
 
 -- ---- hubs by their lists

@@ -92,7 +92,7 @@ owners = refl
 -- ---- the channels
 
 -- the hub is machine 0, `a` and `b` are 1 and 2, the source of `x` is 3, the tray of `q` is 4
-wires : wires_of circuit tree listed ≡ wire 0 3 0 ∷ wire 2 0 1 ∷ wire 3 0 1 ∷ wire 4 1 0 ∷ wire 5 1 0 ∷ wire 6 0 2 ∷ wire 7 2 0 ∷ wire 1 0 4 ∷ []
+wires : wires_of circuit tree listed [] ≡ wire 0 3 0 ∷ wire 2 0 1 ∷ wire 3 0 1 ∷ wire 4 1 0 ∷ wire 5 1 0 ∷ wire 6 0 2 ∷ wire 7 2 0 ∷ wire 1 0 4 ∷ []
 wires = refl
 
 numbers : first_unit ∷ first_memory listed ∷ first_source listed ∷ first_tray circuit listed ∷ machine_count circuit listed ∷ [] ≡ 1 ∷ 3 ∷ 3 ∷ 4 ∷ 5 ∷ []
@@ -116,14 +116,14 @@ direct-wires : plan_wires circuit tree direct_units ≡ record { signal = 2; giv
 direct-wires = refl
 
 -- not asked for: all channels stay
-plain-wires : plan_wires circuit tree both_units ≡ wires_of circuit tree listed
+plain-wires : plan_wires circuit tree both_units ≡ wires_of circuit tree listed []
 plain-wires = refl
 
 direct-names : channel_names circuit (plan_signals circuit tree direct_units) ≡ codes "a.x" ∷ codes "a.k" ∷ codes "b.m" ∷ codes "q" ∷ []
 direct-names = refl
 
 -- the empty partition: the channels from the source and to the tray
-alone : wires_of circuit tree (listed_of tree (asks [] [])) ≡ wire 0 1 0 ∷ wire 1 0 2 ∷ []
+alone : wires_of circuit tree (listed_of tree (asks [] [])) [] ≡ wire 0 1 0 ∷ wire 1 0 2 ∷ []
 alone = refl
 
 capacities : map (capacity_of ((codes "a.x", 7) ∷ (codes "q", 1) ∷ []) 2) (codes "a.x" ∷ codes "a.k" ∷ codes "q" ∷ []) ≡ 7 ∷ 2 ∷ 1 ∷ []

@@ -18,7 +18,8 @@ use Rattle.gg_cut_plan.specs.Fault.{fault_text, first_fault_with}
 use Rattle.gg_bits.specs.Lists.{first_of}
 use Rattle.gg_cut_plan.specs.Plan.{machine_names}
 use Rattle.gg_cut_plan.specs.inside.Plan.{cut_names}
-use Rattle.gg_cut_plan.specs.Seated.{Bridges, plan_bridges, plan_wires, seat_of, machine_end, first_kept_tray, first_bridge, open_ins, open_outs}
+use Rattle.gg_cut_plan.specs.Ports.{Bridges, plan_bridges, machine_end, first_kept_tray, first_bridge, giver_of, keeper_of, open_ins, open_outs}
+use Rattle.gg_cut_plan.specs.Seated.{plan_wires, seat_of}
 use Rattle.gg_cut_plan.specs.inside.Seated.{IsKept}
 use Rattle.gg_cut_plan.proofs.WorkedPair.{input, output}
 
@@ -63,7 +64,7 @@ abbrev bridges : Bridges
 bridges = plan_bridges circuit tree asks
 
 -- without bridges: the hub is machine 0, the sources of `x` and `y` are 1 and 2, the trays of `p`, `q` and `s` 3 to 5
-plain : wires_of circuit tree (listed_of tree asks) ≡ wire 0 1 0 ∷ wire 1 2 0 ∷ wire 2 0 3 ∷ wire 3 0 4 ∷ wire 4 0 5 ∷ []
+plain : wires_of circuit tree (listed_of tree asks) [] ≡ wire 0 1 0 ∷ wire 1 2 0 ∷ wire 2 0 3 ∷ wire 3 0 4 ∷ wire 4 0 5 ∷ []
 plain = refl
 
 plain-names : cut_names design asks (listed_of tree asks) ≡ codes "hub:" ∷ codes "in:x" ∷ codes "in:y" ∷ codes "out:p" ∷ codes "out:q" ∷ codes "halt:s" ∷ []
@@ -81,6 +82,17 @@ names = refl
 
 wires : plan_wires circuit tree asks ≡ wire 0 4 0 ∷ wire 1 1 0 ∷ wire 2 0 2 ∷ wire 3 0 4 ∷ wire 4 0 3 ∷ []
 wires = refl
+
+-- the channels by the entries themselves
+at-ports : wires_of circuit tree (listed_of tree asks) asks.bridges ≡ wire 0 4 0 ∷ wire 1 1 0 ∷ wire 2 0 2 ∷ wire 3 0 4 ∷ wire 4 0 3 ∷ []
+at-ports = refl
+
+-- the source of `y` is behind no source of `x`, and the tray of the stop is behind that of `p`
+givers : map (giver_of bridges) (0 ∷ 1 ∷ []) ≡ 4 ∷ 1 ∷ []
+givers = refl
+
+keepers : map (keeper_of bridges) (0 ∷ 1 ∷ 2 ∷ []) ≡ 2 ∷ 4 ∷ 3 ∷ []
+keepers = refl
 
 open-ins : open_ins circuit asks ≡ 1 ∷ []
 open-ins = refl
@@ -102,12 +114,21 @@ sees_stop = record no_request { bridges = entry (codes "e") (codes "s" ∷ []) [
 stop-stays : map (seat_of (plan_bridges circuit tree sees_stop)) (3 ∷ 4 ∷ 5 ∷ []) ≡ 3 ∷ 4 ∷ 5 ∷ []
 stop-stays = refl
 
+stop-kept : wires_of circuit tree (listed_of tree sees_stop) sees_stop.bridges ≡ wire 0 1 0 ∷ wire 1 2 0 ∷ wire 2 0 3 ∷ wire 3 0 4 ∷ wire 4 0 5 ∷ []
+stop-kept = refl
+
+stop-seen : ¬ (keeper_of (plan_bridges circuit tree sees_stop) 2 ≡ 6)
+stop-seen is = absurd (omega (arith, is))
+
 -- a port that two entries list is the first one's, though such a request has a fault
 abbrev sees_twice : Request
 sees_twice = record no_request { bridges = entry (codes "e") (codes "q" ∷ []) [] ∷ entry (codes "f") (codes "q" ∷ codes "p" ∷ []) [] ∷ [] }
 
 first-sees : map (seat_of (plan_bridges circuit tree sees_twice)) (3 ∷ 4 ∷ 5 ∷ []) ≡ 5 ∷ 4 ∷ 3 ∷ []
 first-sees = refl
+
+first-takes : map (keeper_of (plan_bridges circuit tree sees_twice)) (0 ∷ 1 ∷ 2 ∷ []) ≡ 5 ∷ 4 ∷ 3 ∷ []
+first-takes = refl
 
 -- ---- faults
 

@@ -20,6 +20,7 @@ use Rattle.gg_flat_tree.specs.Tree.{InstanceTree, memory_at, path_at}
 use Rattle.gg_flat_tree.specs.Scoped.{memory_fields, stop_signals}
 use Rattle.gg_partfile.specs.declared.request.Request.{Request}
 use Rattle.gg_partfile.specs.Size.{all_driven}
+use Rattle.gg_partfile.specs.declared.request.BridgeEntry.{BridgeEntry}
 use Rattle.gg_cut_plan.specs.declared.wires.Wire.{Wire}
 use Rattle.gg_cut_plan.specs.declared.listed.Listed.{Listed}
 use Rattle.gg_cut_plan.specs.Listed.{is_among, listed_of, owner_of, memory_owner}
@@ -208,18 +209,30 @@ hub_fields circuit tree listed =
     flat_map (λ j. memory_fields circuit (memory_at tree j).memory)
     (filter (λ j. memory_owner tree listed j == 0) (range_with_len 0 (length tree.memories)))
 
--- what the routing looks at in a cut: which channels are piped, which inputs are driven, and whether channels are to be direct
-abbrev pub hub_of : FlatCircuit → InstanceTree → Listed → (piped driven : ℕ → Bool) → Bool → Hub
-hub_of circuit tree listed piped driven direct =
+-- whether a driver is an input of the circuit
+abbrev pub is_input : Driver → Bool
+is_input (Input place) = true
+is_input (Held register) = false
+is_input (MemoryWord memory reader addr en) = false
+is_input (ReadRegister memory reader) = false
+is_input (Computed line) = false
+
+-- Signal s is a top input, and an entry lists it among what its bridge drives.
+abbrev pub is_driven : FlatCircuit → List BridgeEntry → ℕ → Bool
+is_driven circuit entries s = is_input (driver_at circuit s) && is_among (all_driven entries) (path_at circuit.paths s)
+
+-- what the routing looks at in a cut: which channels are piped, the entries of bridges, and whether channels are to be direct
+abbrev pub hub_of : FlatCircuit → InstanceTree → Listed → (piped : ℕ → Bool) → List BridgeEntry → Bool → Hub
+hub_of circuit tree listed piped entries direct =
     record {
       circuit = circuit;
       owner = owner_of circuit tree listed;
-      base = wires_of circuit tree listed;
+      base = wires_of circuit tree listed [];
       held = hub_fields circuit tree listed;
       stops = stop_signals tree;
       memory = is_memory listed;
       piped = piped;
-      driven = driven;
+      driven = is_driven circuit entries;
       direct = direct;
     }
 
@@ -229,21 +242,9 @@ hub_of circuit tree listed piped driven direct =
 abbrev pub is_piped : FlatCircuit → Request → ℕ → Bool
 is_piped circuit request s = is_among request.pipe (path_at circuit.paths s)
 
--- whether a driver is an input of the circuit
-abbrev pub is_input : Driver → Bool
-is_input (Input place) = true
-is_input (Held register) = false
-is_input (MemoryWord memory reader addr en) = false
-is_input (ReadRegister memory reader) = false
-is_input (Computed line) = false
-
--- A bridge of the request drives signal s, which is a top input.
-abbrev pub is_driven : FlatCircuit → Request → ℕ → Bool
-is_driven circuit request s = is_input (driver_at circuit s) && is_among (all_driven request.bridges) (path_at circuit.paths s)
-
 -- the hub of a request's cut
 abbrev pub plan_hub : FlatCircuit → InstanceTree → Request → Hub
-plan_hub circuit tree request = hub_of circuit tree (listed_of tree request) (is_piped circuit request) (is_driven circuit request) request.direct
+plan_hub circuit tree request = hub_of circuit tree (listed_of tree request) (is_piped circuit request) request.bridges request.direct
 
 -- The channels of the plan, between the machines of the cut: the cut's channels, routed if the request has direct channels. The machines have the
 -- numbers that they have without bridges.

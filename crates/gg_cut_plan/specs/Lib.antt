@@ -2,6 +2,7 @@ pub mod Machines
 pub mod Listed
 pub mod Clocks
 pub mod Fault
+pub mod Ports
 pub mod Channels
 pub mod Hosts
 pub mod Alike

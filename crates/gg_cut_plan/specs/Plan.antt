@@ -1,7 +1,7 @@
 -- The plan of a cut: its machines with their pieces, its channels, and what each channel needs.
 -- Source: MEMOCODE 2009 (a network of machines that are latency-insensitive: an output depends only on the inputs
 -- that it is computed from); ICCAD 2019 (instances and memories of a target as models of their own).
-use Rattle.std.specs.Prelude.{◌≡◌, ◌≢◌, ◌↔◌, ◌⊎◌, ℕ, ◌<◌, ◌≤◌, ◌+◌, ◌-◌, ◌^◌, List, [], ◌∷◌, Bool, Option, Some, unwrap_or, false, ◌++◌, ◌==◌, length, map, take, drop, filter, codes, slice_index_or, Contains, AllPairs}
+use Rattle.std.specs.Prelude.{◌≡◌, ◌≢◌, ◌↔◌, ◌⊎◌, ℕ, ◌<◌, ◌≤◌, ◌+◌, ◌-◌, ◌^◌, List, [], ◌∷◌, Bool, Option, Some, unwrap_or, false, ◌++◌, ◌==◌, length, map, drop, filter, codes, slice_index_or, Contains, AllPairs}
 use Rattle.std.specs.List.{range_with_len}
 use Rattle.gg_bits.specs.Shape.{shape}
 use Rattle.gg_flat.specs.Line.{value_at, shape_at}
@@ -30,7 +30,8 @@ use Rattle.gg_cut_plan.specs.Channels.{wire, capacity_of}
 use Rattle.gg_cut_plan.specs.Clocks.{ratios_of}
 use Rattle.gg_cut_plan.specs.Direct.{Hub, routes, is_gone, is_piped, plan_hub}
 use Rattle.gg_cut_plan.specs.Bridges.{Models, model_named}
-use Rattle.gg_cut_plan.specs.Seated.{first_bridge, first_kept_tray, machine_end, open_ins, open_outs, output_count, plan_bridges, plan_wires}
+use Rattle.gg_cut_plan.specs.Ports.{first_bridge, first_kept_tray, machine_end, open_ins, open_outs, output_count, plan_bridges}
+use Rattle.gg_cut_plan.specs.Seated.{plan_wires}
 use Rattle.gg_cut_plan.specs.Hosts.{host_of}
 use Rattle.gg_cut_plan.specs.Alike.{AreAlike}
 

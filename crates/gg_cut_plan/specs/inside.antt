@@ -7,5 +7,6 @@ pub mod Direct
 pub mod Listed
 pub mod Machines
 pub mod Plan
+pub mod Ports
 pub mod Seated
 pub mod Solves

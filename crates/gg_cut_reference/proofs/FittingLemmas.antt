@@ -4,7 +4,6 @@ pub mod LowLemmas
 pub mod FittingLemmas
 pub mod AttachLemmas
 pub mod BridgeLemmas
-pub mod CountLemmas
 pub mod OpenLemmas
 pub mod NameLemmas
 pub mod PortLemmas

@@ -1,15 +1,21 @@
 -- The routed channels depend on which in-channels of the hub are piped or driven, and on nothing else of the pipes and the bridges.
-use Rattle.std.proofs.Common.{◌≡◌, ℕ, zero, suc, Bool, true, false, not, List, Option, Some, None, length, map, refl, ◌∙◌, ap, ap₂}
+use Rattle.std.proofs.Common.{◌≡◌, ℕ, zero, suc, Bool, true, false, not, List, [], Option, Some, None, length, map, refl, ◌∙◌, ap, ap₂}
 use Rattle.std.specs.Prelude.{◌&&◌, ◌||◌, ◌==◌, if◌then◌else◌, filter, is_some, option_and_then}
 use Rattle.std.specs.List.{list_any}
 use Rattle.std.proofs.Math.Path.{fun_ext}
-use Rattle.gg_flat.specs.Circuit.{FlatCircuit}
+use Rattle.std.proofs.Math.Bool.{and-false}
+use Rattle.gg_flat.specs.Circuit.{FlatCircuit, driver_at}
 use Rattle.gg_flat_tree.specs.Tree.{InstanceTree}
+use Rattle.gg_partfile.specs.declared.request.BridgeEntry.{BridgeEntry}
 use Rattle.gg_cut_plan.specs.declared.listed.Listed.{Listed}
 use Rattle.gg_cut_plan.specs.declared.wires.Wire.{Wire}
-use Rattle.gg_cut_plan.specs.Direct.{Hub, hub_of, is_taken, is_own, made, named_by, copied, origin_within, origin, if_plain, may_be_direct, direct_of, is_direct, kept, is_number, has_left, left_by, is_gone, route_by, route, routes}
+use Rattle.gg_cut_plan.specs.Direct.{Hub, hub_of, is_driven, is_input, is_taken, is_own, made, named_by, copied, origin_within, origin, if_plain, may_be_direct, direct_of, is_direct, kept, is_number, has_left, left_by, is_gone, route_by, route, routes}
 
-module _ (circuit : FlatCircuit) (tree : InstanceTree) (listed : Listed) (direct : Bool) (p d q e : ℕ → Bool) (agree : (s : ℕ) → is_taken (hub_of circuit tree listed p d direct) s ≡ true → (p s || d s) ≡ (q s || e s)) where
+-- without entries no input is driven
+pub nothing-driven : (circuit : FlatCircuit) (s : ℕ) → is_driven circuit [] s ≡ false
+nothing-driven circuit s = and-false (is_input (driver_at circuit s))
+
+module _ (circuit : FlatCircuit) (tree : InstanceTree) (listed : Listed) (direct : Bool) (p q : ℕ → Bool) (d e : List BridgeEntry) (agree : (s : ℕ) → is_taken (hub_of circuit tree listed p d direct) s ≡ true → (p s || is_driven circuit d s) ≡ (q s || is_driven circuit e s)) where
   abbrev one : Hub
   one = hub_of circuit tree listed p d direct
 
@@ -21,8 +27,8 @@ module _ (circuit : FlatCircuit) (tree : InstanceTree) (listed : Listed) (direct
   within-same (suc n) s = by (is_taken one s) refl (fun_ext (within-same n))
     where
       by : (taken : Bool) → is_taken one s ≡ taken → origin_within one n ≡ origin_within other n
-          → (if taken then (if p s || d s then None else Some s) else (if is_own one s then option_and_then (origin_within one n) (copied circuit s) else None))
-          ≡ (if taken then (if q s || e s then None else Some s) else (if is_own one s then option_and_then (origin_within other n) (copied circuit s) else None))
+          → (if taken then (if p s || is_driven circuit d s then None else Some s) else (if is_own one s then option_and_then (origin_within one n) (copied circuit s) else None))
+          ≡ (if taken then (if q s || is_driven circuit e s then None else Some s) else (if is_own one s then option_and_then (origin_within other n) (copied circuit s) else None))
       by true is rest = ap (λ b. if b then None else Some s) (agree s is)
       by false is rest = ap (λ (from : ℕ → Option ℕ). if is_own one s then option_and_then from (copied circuit s) else None) rest
 

@@ -26,7 +26,7 @@ use Rattle.gg_cut_plan.proofs.ChainLemmas.{marked-more}
 use Rattle.gg_cut_plan.proofs.OriginLemmas.{any-finds}
 use Rattle.gg_cut_plan.proofs.PathLemmas.{HoldsPath, holds-path}
 use Rattle.gg_cut_split.specs.inside.Apart.{AreApart}
-use Rattle.gg_cut_routes.proofs.AgreeLemmas.{gone-same, routes-agree}
+use Rattle.gg_cut_routes.proofs.AgreeLemmas.{gone-same, nothing-driven, routes-agree}
 use Rattle.gg_cut_routes.proofs.PlanLemmas.{plan-base}
 
 -- ---- marks by names
@@ -157,28 +157,28 @@ module _ (circuit : FlatCircuit) where
 -- ---- the channels of a plan
 
 -- marks of a circuit are those of a design's
-pub marked-as : (circuit piece : FlatCircuit) (request : Request) (marks items : List Bool) → piece ≡ circuit → marks ≡ items → ((s : ℕ) → s < length piece.signals → is_marked items s ≡ (is_piped piece request s || is_driven piece request s))
-    → (s : ℕ) → s < length circuit.signals → is_marked marks s ≡ (is_piped circuit request s || is_driven circuit request s)
+pub marked-as : (circuit piece : FlatCircuit) (request : Request) (marks items : List Bool) → piece ≡ circuit → marks ≡ items → ((s : ℕ) → s < length piece.signals → is_marked items s ≡ (is_piped piece request s || is_driven piece request.bridges s))
+    → (s : ℕ) → s < length circuit.signals → is_marked marks s ≡ (is_piped circuit request s || is_driven circuit request.bridges s)
 marked-as circuit piece request marks items is same marked s lt =
     ap (λ (l : List Bool). is_marked l s) same ∙ marked s (subst (λ (c : FlatCircuit). s < length c.signals) (sym is) lt)
-    ∙ ap (λ (c : FlatCircuit). is_piped c request s || is_driven c request s) is
+    ∙ ap (λ (c : FlatCircuit). is_piped c request s || is_driven c request.bridges s) is
 
-module _ (design : Ordered) (request : Request) (listed : Listed) (marks : List Bool) (is : IsDesign design) (keeps : KeepsToTree design.circuit design.tree) (apart : AreApart design.tree listed) (same : listed ≡ listed_of design.tree request) (marked : (s : ℕ) → s < length design.circuit.signals → is_marked marks s ≡ (is_piped design.circuit request s || is_driven design.circuit request s)) where
+module _ (design : Ordered) (request : Request) (listed : Listed) (marks : List Bool) (is : IsDesign design) (keeps : KeepsToTree design.circuit design.tree) (apart : AreApart design.tree listed) (same : listed ≡ listed_of design.tree request) (marked : (s : ℕ) → s < length design.circuit.signals → is_marked marks s ≡ (is_piped design.circuit request s || is_driven design.circuit request.bridges s)) where
   abbrev hub : Hub
-  hub = hub_of design.circuit design.tree listed (is_marked marks) (λ s. false) request.direct
+  hub = hub_of design.circuit design.tree listed (is_marked marks) [] request.direct
 
-  agree : (s : ℕ) → is_taken hub s ≡ true → (is_marked marks s || false) ≡ (is_piped design.circuit request s || is_driven design.circuit request s)
+  agree : (s : ℕ) → is_taken hub s ≡ true → (is_marked marks s || is_driven design.circuit [] s) ≡ (is_piped design.circuit request s || is_driven design.circuit request.bridges s)
   agree s e =
       let at = any-finds (λ (w : Wire). (w.consumer == 0) && (w.signal == s)) hub.base e in
-      let known = All-contains (λ (w : Wire). w.signal < length design.circuit.signals) hub.base at.item (plan-base design listed (is_marked marks) (λ s. false) request.direct is keeps apart).known at.among in
-      or-false (is_marked marks s) ∙ marked s (subst (λ t. t < length design.circuit.signals) (eqb-true at.item.signal s (and_parts (at.item.consumer == 0) (at.item.signal == s) at.passes).1) known)
+      let known = All-contains (λ (w : Wire). w.signal < length design.circuit.signals) hub.base at.item (plan-base design listed (is_marked marks) [] request.direct is keeps apart).known at.among in
+      ap (λ d. is_marked marks s || d) (nothing-driven design.circuit s) ∙ or-false (is_marked marks s) ∙ marked s (subst (λ t. t < length design.circuit.signals) (eqb-true at.item.signal s (and_parts (at.item.consumer == 0) (at.item.signal == s) at.passes).1) known)
 
-  pub planned-wires : routes (hub_of design.circuit design.tree listed (is_marked marks) (λ s. false) request.direct) ≡ plan_routes design.circuit design.tree request
+  pub planned-wires : routes (hub_of design.circuit design.tree listed (is_marked marks) [] request.direct) ≡ plan_routes design.circuit design.tree request
   planned-wires =
-      routes-agree design.circuit design.tree listed request.direct (is_marked marks) (λ s. false) (is_piped design.circuit request) (is_driven design.circuit request) agree
-      ∙ ap (λ (l : Listed). routes (hub_of design.circuit design.tree l (is_piped design.circuit request) (is_driven design.circuit request) request.direct)) same
+      routes-agree design.circuit design.tree listed request.direct (is_marked marks) (is_piped design.circuit request) [] request.bridges agree
+      ∙ ap (λ (l : Listed). routes (hub_of design.circuit design.tree l (is_piped design.circuit request) request.bridges request.direct)) same
 
-  pub planned-gone : (s : ℕ) → is_gone (hub_of design.circuit design.tree listed (is_marked marks) (λ s. false) request.direct) s ≡ is_gone (plan_hub design.circuit design.tree request) s
+  pub planned-gone : (s : ℕ) → is_gone (hub_of design.circuit design.tree listed (is_marked marks) [] request.direct) s ≡ is_gone (plan_hub design.circuit design.tree request) s
   planned-gone s =
-      gone-same design.circuit design.tree listed request.direct (is_marked marks) (λ s. false) (is_piped design.circuit request) (is_driven design.circuit request) agree s
-      ∙ ap (λ (l : Listed). is_gone (hub_of design.circuit design.tree l (is_piped design.circuit request) (is_driven design.circuit request) request.direct) s) same
+      gone-same design.circuit design.tree listed request.direct (is_marked marks) (is_piped design.circuit request) [] request.bridges agree s
+      ∙ ap (λ (l : Listed). is_gone (hub_of design.circuit design.tree l (is_piped design.circuit request) request.bridges request.direct) s) same

@@ -19,7 +19,7 @@ use std::alloc::{AllocError, Global};
 /// Returns `AllocError` if an allocation fails.
 pub fn barred_of(alloc: Global, piece: &Piece, request: &Request) -> Result<Vec<bool>, AllocError>
     ensures count { IfOk result (λ marks. length marks.items ≡ length piece.now.signals) }
-    ensures marks { IfOk result (λ marks. (s : ℕ) → s < length piece.now.signals → is_marked marks.items s ≡ (is_piped piece.now request.now s || is_driven piece.now request.now s)) }
+    ensures marks { IfOk result (λ marks. (s : ℕ) → s < length piece.now.signals → is_marked marks.items s ≡ (is_piped piece.now request.now s || is_driven piece.now request.now.bridges s)) }
 {
     let mut marks = piped_of(alloc, piece, request.pipe.as_slice())?;
     for entry in request.bridges.as_slice() {

@@ -1,7 +1,8 @@
 //! Laws: facts about the definitions. Each is the contract of a function with an empty body.
-ghost use Rattle.std.specs.Prelude.{◌≡◌, ℕ, Bool, false};
+ghost use Rattle.std.specs.Prelude.{◌≡◌, ℕ, List, [], Bool, false};
 ghost use Rattle.gg_flat.specs.Circuit.{FlatCircuit};
 ghost use Rattle.gg_flat_tree.specs.Tree.{InstanceTree};
+ghost use Rattle.gg_partfile.specs.declared.request.BridgeEntry.{BridgeEntry};
 ghost use Rattle.gg_cut_plan.specs.declared.listed.Listed.{Listed};
 ghost use Rattle.gg_partfile.specs.declared.request.Request.{Request};
 ghost use Rattle.gg_cut_plan.specs.Listed.{listed_of};
@@ -26,9 +27,9 @@ pub fn plan_is_routed()
 
 /// If no channels are to be direct, the channels are the cut's, and no signal leaves.
 pub fn nothing_direct()
-    ensures channels { (circuit : FlatCircuit) (tree : InstanceTree) (listed : Listed) (piped driven : ℕ → Bool) → routes (hub_of circuit tree listed piped driven false) ≡ wires_of circuit tree listed }
-    ensures stays { (circuit : FlatCircuit) (tree : InstanceTree) (listed : Listed) (piped driven : ℕ → Bool) (s : ℕ) → is_gone (hub_of circuit tree listed piped driven false) s ≡ false }
-    ensures plan { (circuit : FlatCircuit) (tree : InstanceTree) (request : Request) → request.direct ≡ false → plan_routes circuit tree request ≡ wires_of circuit tree (listed_of tree request) }
+    ensures channels { (circuit : FlatCircuit) (tree : InstanceTree) (listed : Listed) (piped : ℕ → Bool) (entries : List BridgeEntry) → routes (hub_of circuit tree listed piped entries false) ≡ wires_of circuit tree listed [] }
+    ensures stays { (circuit : FlatCircuit) (tree : InstanceTree) (listed : Listed) (piped : ℕ → Bool) (entries : List BridgeEntry) (s : ℕ) → is_gone (hub_of circuit tree listed piped entries false) s ≡ false }
+    ensures plan { (circuit : FlatCircuit) (tree : InstanceTree) (request : Request) → request.direct ≡ false → plan_routes circuit tree request ≡ wires_of circuit tree (listed_of tree request) [] }
 {}
 
 /// What a machine of a cut had before the routing determines what it has by the routed channels. A signal of the hub stays if it isn't marked as gone

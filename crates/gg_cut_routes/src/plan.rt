@@ -1,5 +1,5 @@
 //! The channels of a plan, and what stays of the hub's signals.
-ghost use Rattle.std.specs.Prelude.{◌≡◌, ℕ, ◌<◌, ◌&&◌, not, length, filter, All, IfOk};
+ghost use Rattle.std.specs.Prelude.{◌≡◌, ℕ, ◌<◌, ◌&&◌, [], not, length, filter, All, IfOk};
 ghost use Rattle.gg_part.specs.KeepsToTree.{KeepsToTree};
 ghost use Rattle.gg_order.specs.Marks.{is_marked};
 ghost use Rattle.gg_cut_plan.specs.Channels.{wires_of};
@@ -36,7 +36,7 @@ pub fn plan_routes(
     requires keeps { KeepsToTree design.now.circuit design.now.tree }
     requires listed { listed.now ≡ listed_of design.now.tree request.now }
     requires apart { AreApart design.now.tree listed.now }
-    requires wires { split.now.wires ≡ wires_of design.now.circuit design.now.tree listed.now }
+    requires wires { split.now.wires ≡ wires_of design.now.circuit design.now.tree listed.now [] }
     requires shares { AreShares design.now listed.now split.now.shares }
     ensures wires { IfOk result (λ found. found.wires ≡ plan_routes design.now.circuit design.now.tree request.now) }
     ensures gone { IfOk result (λ found. (s : ℕ) → s < length design.now.circuit.signals → is_marked found.gone s ≡ is_gone (plan_hub design.now.circuit design.now.tree request.now) s) }

@@ -1,5 +1,5 @@
 //! The channels of a cut with direct channels.
-ghost use Rattle.std.specs.Prelude.{◌≡◌, false, length, IfOk};
+ghost use Rattle.std.specs.Prelude.{◌≡◌, [], false, length, IfOk};
 ghost use Rattle.gg_part.specs.KeepsToTree.{KeepsToTree};
 ghost use Rattle.gg_order.specs.Marks.{is_marked};
 ghost use Rattle.gg_cut_plan.specs.Channels.{wires_of};
@@ -56,12 +56,12 @@ pub fn routes(
 ) -> Result<Channels, AllocError>
     requires keeps { KeepsToTree design.now.circuit design.now.tree }
     requires apart { AreApart design.now.tree listed.now }
-    requires wires { split.now.wires ≡ wires_of design.now.circuit design.now.tree listed.now }
+    requires wires { split.now.wires ≡ wires_of design.now.circuit design.now.tree listed.now [] }
     requires shares { AreShares design.now listed.now split.now.shares }
     requires barred { length barred.now ≡ length design.now.circuit.signals }
-    ensures wires { IfOk result (λ found. found.wires ≡ routes (hub_of design.now.circuit design.now.tree listed.now (is_marked barred.now) (λ s. false) direct)) }
-    ensures gone { IfOk result (λ found. MarksGone (hub_of design.now.circuit design.now.tree listed.now (is_marked barred.now) (λ s. false) direct) found.gone) }
-    ensures sound { AreRoutes design.now listed.now (hub_of design.now.circuit design.now.tree listed.now (is_marked barred.now) (λ s. false) direct) }
+    ensures wires { IfOk result (λ found. found.wires ≡ routes (hub_of design.now.circuit design.now.tree listed.now (is_marked barred.now) [] direct)) }
+    ensures gone { IfOk result (λ found. MarksGone (hub_of design.now.circuit design.now.tree listed.now (is_marked barred.now) [] direct) found.gone) }
+    ensures sound { AreRoutes design.now listed.now (hub_of design.now.circuit design.now.tree listed.now (is_marked barred.now) [] direct) }
 {
     channels_routed();
     channels_once();
@@ -96,7 +96,7 @@ fn routes_of(
 ) -> Result<Channels, AllocError>
     requires can { CanRoute piece.now tree.now order.now listed.now wires.now globals.now memories.now }
     requires barred { length barred.now ≡ length piece.now.signals }
-    ensures { IfOk result (λ found. IsRouting (hub_of piece.now tree.now listed.now (is_marked barred.now) (λ s. false) direct) found.wires found.gone) }
+    ensures { IfOk result (λ found. IsRouting (hub_of piece.now tree.now listed.now (is_marked barred.now) [] direct) found.wires found.gone) }
 {
     let count = piece.signal_count();
     let sides = routed_sides(alloc, count, wires, globals)?;

@@ -11,7 +11,9 @@ use Rattle.gg_order.specs.Design.{Ordered, IsDesign}
 use Rattle.gg_cut_plan.specs.declared.wires.Wire.{Wire}
 use Rattle.gg_cut_plan.specs.declared.listed.Listed.{Listed}
 use Rattle.gg_cut_plan.specs.Listed.{first_place, has_signal, memory_or, owner_of, unit_or_hub, memory_owner}
+use Rattle.gg_cut_plan.specs.Ports.{machine_end, ports_of}
 use Rattle.gg_cut_plan.specs.inside.Machines.{machine_count}
+use Rattle.gg_cut_plan.proofs.PortLemmas.{end-plain}
 use Rattle.gg_cut_plan.specs.Channels.{wires_of}
 use Rattle.gg_cut_plan.specs.Plan.{channels_to, channels_from}
 use Rattle.gg_cut_split.specs.declared.share.Share.{Share}
@@ -29,17 +31,18 @@ use Rattle.gg_cut_split.proofs.ShareLemmas.{signals-are, memories-are, shared}
 
 module _ (circuit : FlatCircuit) (tree : InstanceTree) (listed : Listed) (fits : IsTree circuit tree) (apart : AreApart tree listed) where
   -- the ends of each channel are two of this many machines
-  pub ends-known : (wires : List Wire) (count : ℕ) → wires ≡ wires_of circuit tree listed → count ≡ machine_count circuit listed → All (AreEnds count) wires
+  pub ends-known : (wires : List Wire) (count : ℕ) → wires ≡ wires_of circuit tree listed [] → count ≡ machine_count circuit listed → All (AreEnds count) wires
   ends-known wires count is many =
-      subst (λ n. All (AreEnds n) wires) (sym many) (subst (λ (l : List Wire). All (AreEnds (machine_count circuit listed)) l) (sym is) (ends circuit tree listed fits apart))
+      subst (λ n. All (AreEnds n) wires) (sym many) (subst (λ n. All (AreEnds n) wires) (end-plain circuit tree listed) (subst (λ (l : List Wire). All (AreEnds (machine_end (ports_of circuit tree listed []))) l) (sym is) (ends circuit tree listed [] fits apart)))
 
   -- the same without that they are two
-  pub sides-known : (wires : List Wire) (count : ℕ) → wires ≡ wires_of circuit tree listed → count ≡ machine_count circuit listed → All (λ w. (w.producer < count) × (w.consumer < count)) wires
+  pub sides-known : (wires : List Wire) (count : ℕ) → wires ≡ wires_of circuit tree listed [] → count ≡ machine_count circuit listed → All (λ w. (w.producer < count) × (w.consumer < count)) wires
   sides-known wires count is many k d lt = let at = ends-known wires count is many k d lt in (at.producer, at.consumer)
 
   pub owners-known : (owners now : List ℕ) (count : ℕ) → now ≡ owners → count ≡ machine_count circuit listed → ((s : ℕ) → value_at owners s ≡ unit_or_hub (first_place (has_signal tree s) listed.units)) → All (λ m. m < count) now
   owners-known owners now count is many owns =
-      subst (λ n. All (λ m. m < n) now) (sym many) (subst (λ (l : List ℕ). All (λ m. m < machine_count circuit listed) l) (sym is) (owner-few circuit tree listed owners owns))
+      subst (λ n. All (λ m. m < n) now) (sym many)
+      (subst (λ (l : List ℕ). All (λ m. m < machine_count circuit listed) l) (sym is) (λ k d lt. let low = owner-few circuit tree listed owners owns k d lt in omega (arith, low)))
 
   pub machines-known : (machines now : List ℕ) (count : ℕ) → now ≡ machines → count ≡ machine_count circuit listed → length machines ≡ length tree.memories → ((place : ℕ) → place < length tree.memories → value_at machines place ≡ memory_owner tree listed place) → All (λ m. m < count) now
   machines-known machines now count is many as-many owns =
@@ -75,10 +78,10 @@ module _ (circuit : FlatCircuit) (tree : InstanceTree) (order : List ℕ) (liste
       let read = get_or_default circuit.outs k d 0 lt in
       omega (arith, known, read, many)
 
-  pub wires-known : (wires : List Wire) (n : ℕ) → wires ≡ wires_of circuit tree listed → n ≡ length circuit.signals → All (λ w. w.signal < n) wires
+  pub wires-known : (wires : List Wire) (n : ℕ) → wires ≡ wires_of circuit tree listed [] → n ≡ length circuit.signals → All (λ w. w.signal < n) wires
   wires-known wires n is many k d lt =
       subst (λ j. (get_or wires k d).signal < j) (sym many)
-      (wire-known circuit tree listed sound.formed sound.fitting sound.scoped sound.apart (get_or wires k d) (subst (λ (l : List Wire). Contains l (get_or wires k d)) is (Contains-get_or wires k d lt)))
+      (wire-known circuit tree listed [] sound.formed sound.fitting sound.scoped sound.apart (get_or wires k d) (subst (λ (l : List Wire). Contains l (get_or wires k d)) is (Contains-get_or wires k d lt)))
 
   pub order-known : (owners now : List ℕ) → now ≡ owners → length owners ≡ length circuit.signals → All (λ s. s < length now) order
   order-known owners now is many k d lt =
@@ -87,16 +90,16 @@ module _ (circuit : FlatCircuit) (tree : InstanceTree) (order : List ℕ) (liste
       let same = ap length is in
       omega (arith, known, read, same, many)
 
-  pub each-signals : (owners now_owners : List ℕ) (channels now_channels : List (Option ℕ)) (wires : List Wire) (count : ℕ) (lists : List (List ℕ)) → now_owners ≡ owners → now_channels ≡ channels → wires ≡ wires_of circuit tree listed → ((s : ℕ) → value_at owners s ≡ unit_or_hub (first_place (has_signal tree s) listed.units)) → AreChannels wires channels → length channels ≡ length circuit.signals → AreLists (signals_among wires now_owners now_channels order) count lists → EachList (AreSignals circuit tree order listed) count lists
+  pub each-signals : (owners now_owners : List ℕ) (channels now_channels : List (Option ℕ)) (wires : List Wire) (count : ℕ) (lists : List (List ℕ)) → now_owners ≡ owners → now_channels ≡ channels → wires ≡ wires_of circuit tree listed [] → ((s : ℕ) → value_at owners s ≡ unit_or_hub (first_place (has_signal tree s) listed.units)) → AreChannels wires channels → length channels ≡ length circuit.signals → AreLists (signals_among wires now_owners now_channels order) count lists → EachList (AreSignals circuit tree order listed []) count lists
   each-signals owners now_owners channels now_channels wires count lists is_owners is_channels is owns marked many are =
       record {
         many = are.many;
         each = λ m lt.
-            subst (AreSignals circuit tree order listed m) (sym (are.each m lt ∙ ap (λ (w : List Wire). signals_among w now_owners now_channels order m) is ∙ ap₂ (λ (o : List ℕ) (l : List (Option ℕ)). signals_among (wires_of circuit tree listed) o l order m) is_owners is_channels))
-            (signals-are circuit tree order listed sound.formed sound.fitting sound.scoped sound.ordered sound.apart owners channels owns (subst (λ (w : List Wire). AreChannels w channels) is marked) many m);
+            subst (AreSignals circuit tree order listed [] m) (sym (are.each m lt ∙ ap (λ (w : List Wire). signals_among w now_owners now_channels order m) is ∙ ap₂ (λ (o : List ℕ) (l : List (Option ℕ)). signals_among (wires_of circuit tree listed []) o l order m) is_owners is_channels))
+            (signals-are circuit tree order listed [] sound.formed sound.fitting sound.scoped sound.ordered sound.apart owners channels owns (subst (λ (w : List Wire). AreChannels w channels) is marked) many m);
       }
 
-  pub all-shares : (ins outs globals memories now_ins now_outs now_globals now_memories : List (List ℕ)) (count : ℕ) (shares : List Share) (wires : List Wire) → wires ≡ wires_of circuit tree listed → count ≡ machine_count circuit listed → AreLists (channels_to wires) count ins → AreLists (channels_from wires) count outs → EachList (AreSignals circuit tree order listed) count globals → EachList (AreMemories tree listed) count memories → now_ins ≡ ins → now_outs ≡ outs → now_globals ≡ globals → now_memories ≡ memories → AreGathered now_ins now_outs now_globals now_memories (length now_ins) shares → AreShares (record { circuit = circuit; tree = tree; order = order }) listed shares
+  pub all-shares : (ins outs globals memories now_ins now_outs now_globals now_memories : List (List ℕ)) (count : ℕ) (shares : List Share) (wires : List Wire) → wires ≡ wires_of circuit tree listed [] → count ≡ machine_count circuit listed → AreLists (channels_to wires) count ins → AreLists (channels_from wires) count outs → EachList (AreSignals circuit tree order listed []) count globals → EachList (AreMemories tree listed) count memories → now_ins ≡ ins → now_outs ≡ outs → now_globals ≡ globals → now_memories ≡ memories → AreGathered now_ins now_outs now_globals now_memories (length now_ins) shares → AreShares (record { circuit = circuit; tree = tree; order = order }) listed shares
   all-shares ins outs globals memories now_ins now_outs now_globals now_memories count shares wires is many takes gives signals banks i o g b gathered =
       record { many = gathered.many ∙ machines; each = each }
     where
@@ -108,21 +111,21 @@ module _ (circuit : FlatCircuit) (tree : InstanceTree) (order : List ℕ) (liste
           let at = gathered.each m any (omega (arith, lt, machines)) in
           let share = slice_index_or shares m any in
           let low : m < count = omega (arith, lt, many) in
-          shared circuit tree order listed sound.formed sound.fitting sound.scoped sound.ordered sound.apart m share.ins share.outs share.globals share.memories
+          shared circuit tree order listed [] sound.formed sound.fitting sound.scoped sound.ordered sound.apart m share.ins share.outs share.globals share.memories
           (at.takes ∙ ap (λ (l : List (List ℕ)). slice_index_or l m []) i ∙ takes.each m low ∙ ap (λ (w : List Wire). channels_to w m) is)
           (at.gives ∙ ap (λ (l : List (List ℕ)). slice_index_or l m []) o ∙ gives.each m low ∙ ap (λ (w : List Wire). channels_from w m) is)
-          (subst (AreSignals circuit tree order listed m) (sym (at.signals ∙ ap (λ (l : List (List ℕ)). slice_index_or l m []) g)) (signals.each m low))
+          (subst (AreSignals circuit tree order listed [] m) (sym (at.signals ∙ ap (λ (l : List (List ℕ)). slice_index_or l m []) g)) (signals.each m low))
           (subst (AreMemories tree listed m) (sym (at.banks ∙ ap (λ (l : List (List ℕ)). slice_index_or l m []) b)) (banks.each m low))
 
 -- ---- a design and what is listed
 
 -- each signal has at most one channel, so there are at most as many channels as signals
-wires-few : (design : Ordered) (listed : Listed) → IsDesign design → KeepsToTree design.circuit design.tree → AreApart design.tree listed → length (wires_of design.circuit design.tree listed) ≤ length design.circuit.signals
+wires-few : (design : Ordered) (listed : Listed) → IsDesign design → KeepsToTree design.circuit design.tree → AreApart design.tree listed → length (wires_of design.circuit design.tree listed []) ≤ length design.circuit.signals
 wires-few design listed ready keeps apart =
-    let wires = wires_of design.circuit design.tree listed in
-    let once = wires-once design.circuit design.tree listed keeps.fitting keeps.scoped apart in
+    let wires = wires_of design.circuit design.tree listed [] in
+    let once = wires-once design.circuit design.tree listed [] keeps.fitting keeps.scoped apart in
     let many = length-once (map (λ (w : Wire). w.signal) wires) (length design.circuit.signals) once
-    (All-map (λ s. s < length design.circuit.signals) (λ (w : Wire). w.signal) wires (λ k d lt. wire-known design.circuit design.tree listed ready.formed keeps.fitting keeps.scoped apart (get_or wires k d) (Contains-get_or wires k d lt))) in
+    (All-map (λ s. s < length design.circuit.signals) (λ (w : Wire). w.signal) wires (λ k d lt. wire-known design.circuit design.tree listed [] ready.formed keeps.fitting keeps.scoped apart (get_or wires k d) (Contains-get_or wires k d lt))) in
     omega (arith, many, length-map wires (λ (w : Wire). w.signal))
 
 pub can-split : (design : Ordered) (circuit : FlatCircuit) (tree : InstanceTree) (order : List ℕ) (listed : Listed) → circuit ≡ design.circuit → tree ≡ design.tree → order ≡ design.order → IsDesign design → KeepsToTree design.circuit design.tree → AreApart design.tree listed → length design.circuit.signals < 2 ^ 32 → CanSplit circuit tree order listed

@@ -1,5 +1,5 @@
 //! The channels, in their order.
-ghost use Rattle.std.specs.Prelude.{◌≡◌, ℕ, ◌<◌, ◌++◌, length, map, All, OnOk, IfOk};
+ghost use Rattle.std.specs.Prelude.{◌≡◌, ℕ, ◌<◌, ◌++◌, [], length, map, All, OnOk, IfOk};
 ghost use Rattle.gg_flat.specs.Line.{value_at};
 ghost use Rattle.gg_flat_tree.specs.Tree.{IsTree, instance_at, parent_place};
 ghost use Rattle.gg_cut_plan.specs.Listed.{owner_of, owner_of_instance};
@@ -7,15 +7,15 @@ ghost use Rattle.gg_flat.specs.Circuit.{readers_at};
 ghost use Rattle.gg_flat_tree.specs.Scoped.{writers_at};
 ghost use Rattle.gg_cut_plan.specs.Machines.{first_unit, first_memory, source_after, tray_after};
 ghost use Rattle.gg_cut_plan.specs.inside.Machines.{numbering_of};
-ghost use Rattle.gg_cut_plan.specs.Channels.{wire, numbered, flattened, port_wire, port_wires, reader_wires, writer_wires, field_wires, source_wires, wires_of};
-ghost use Rattle.gg_cut_split.specs.inside.Spread.{held_wires};
+ghost use Rattle.gg_cut_plan.specs.Channels.{wire, numbered, flattened, port_wire, port_wires, reader_wires, writer_wires, field_wires, wires_of};
+ghost use Rattle.gg_cut_split.specs.inside.Spread.{held_wires, source_wires};
 
 use gg_cut_plan::{Listed, Numbering, Wire};
 use gg_flat::{Piece, Reader, Writer};
 use gg_flat_tree::{InstancePort, Tree};
 use std::alloc::{AllocError, Global};
 
-// The channels of a cut, in their order. `owners` has the machine of each instance, and `holders` the machine of each top output.
+// The channels of a cut without bridges, in their order. `owners` has the machine of each instance, and `holders` the machine of each top output.
 //
 // # Errors
 //
@@ -37,7 +37,7 @@ pub(crate) fn channels(
     requires holders { All (λ s. value_at holders.now s ≡ owner_of piece.now tree.now listed.now s) piece.now.outs }
     requires count { length owners.now ≡ length tree.now.instances }
     requires owners { (k : ℕ) → k < length tree.now.instances → value_at owners.now k ≡ owner_of_instance tree.now listed.now.units k }
-    ensures { IfOk result (λ wires. wires.items ≡ wires_of piece.now tree.now listed.now) }
+    ensures { IfOk result (λ wires. wires.items ≡ wires_of piece.now tree.now listed.now []) }
 {
     let mut wires = Vec::new(alloc);
     push_sources(&mut wires, numbering, piece.ins())?;

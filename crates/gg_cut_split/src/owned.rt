@@ -1,5 +1,5 @@
 //! The machines of signals and of memories, and the channels between machines.
-ghost use Rattle.std.specs.Prelude.{◌≡◌, ℕ, ◌<◌, length, IfOk};
+ghost use Rattle.std.specs.Prelude.{◌≡◌, ℕ, ◌<◌, [], length, IfOk};
 ghost use Rattle.gg_flat.specs.Line.{value_at};
 ghost use Rattle.gg_part.specs.KeepsToTree.{KeepsToTree};
 ghost use Rattle.gg_cut_plan.specs.Listed.{owner_of, memory_owner};
@@ -46,7 +46,7 @@ impl Drop for Owned {
 pub fn owned_of(alloc: Global, design: &Design, listed: &Listed) -> Result<Owned, AllocError>
     requires keeps { KeepsToTree design.now.circuit design.now.tree }
     requires apart { AreApart design.now.tree listed.now }
-    ensures wires { IfOk result (λ found. found.wires ≡ wires_of design.now.circuit design.now.tree listed.now) }
+    ensures wires { IfOk result (λ found. found.wires ≡ wires_of design.now.circuit design.now.tree listed.now []) }
     ensures count { IfOk result (λ found. length found.signals ≡ length design.now.circuit.signals) }
     ensures signals { IfOk result (λ found. (s : ℕ) → s < length design.now.circuit.signals → IsInner found.wires s → value_at found.signals s ≡ owner_of design.now.circuit design.now.tree listed.now s) }
     ensures memories { IfOk result (λ found. (place : ℕ) → place < length design.now.tree.memories → value_at found.memories place ≡ memory_owner design.now.tree listed.now place) }
@@ -66,7 +66,7 @@ pub fn owned_of(alloc: Global, design: &Design, listed: &Listed) -> Result<Owned
 // `owned_of` for a circuit with its tree and an order.
 fn owned_in(alloc: Global, whole: &Whole) -> Result<Owned, AllocError>
     requires { IsWhole whole.now }
-    ensures wires { IfOk result (λ found. found.wires ≡ wires_of whole.now.piece.now whole.now.tree.now whole.now.listed.now) }
+    ensures wires { IfOk result (λ found. found.wires ≡ wires_of whole.now.piece.now whole.now.tree.now whole.now.listed.now []) }
     ensures count { IfOk result (λ found. length found.signals ≡ length whole.now.piece.now.signals) }
     ensures signals { IfOk result (λ found. (s : ℕ) → s < length whole.now.piece.now.signals → IsInner found.wires s
         → value_at found.signals s ≡ owner_of whole.now.piece.now whole.now.tree.now whole.now.listed.now s) }

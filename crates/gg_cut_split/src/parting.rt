@@ -26,7 +26,7 @@ use std::alloc::{AllocError, Global};
 pub fn split(alloc: Global, design: &Design, listed: &Listed) -> Result<Split, AllocError>
     requires keeps { KeepsToTree design.now.circuit design.now.tree }
     requires apart { AreApart design.now.tree listed.now }
-    ensures wires { IfOk result (λ split. split.wires ≡ wires_of design.now.circuit design.now.tree listed.now) }
+    ensures wires { IfOk result (λ split. split.wires ≡ wires_of design.now.circuit design.now.tree listed.now []) }
     ensures shares { IfOk result (λ split. AreShares design.now listed.now split.shares) }
     ensures few { IfOk result (λ split. machine_count design.now.circuit listed.now < 2 ^ 32) }
 {
@@ -45,7 +45,7 @@ pub fn split(alloc: Global, design: &Design, listed: &Listed) -> Result<Split, A
 // The channels, and what each machine has, if what is listed is apart.
 fn split_all(alloc: Global, whole: &Whole) -> Result<Split, AllocError>
     requires { IsWhole whole.now }
-    ensures wires { IfOk result (λ split. split.wires ≡ wires_of whole.now.piece.now whole.now.tree.now whole.now.listed.now) }
+    ensures wires { IfOk result (λ split. split.wires ≡ wires_of whole.now.piece.now whole.now.tree.now whole.now.listed.now []) }
     ensures shares { IfOk result (λ split. AreShares (ordered_of whole.now) whole.now.listed.now split.shares) }
     ensures few { IfOk result (λ split. machine_count whole.now.piece.now whole.now.listed.now < 2 ^ 32) }
 {
@@ -95,7 +95,7 @@ fn signals_of(
     requires whole { IsWhole whole.now }
     requires beginning { IsBeginning whole.now beginning.now }
     requires count { count ≡ machine_count whole.now.piece.now whole.now.listed.now }
-    ensures { IfOk result (λ lists. EachList (AreSignals whole.now.piece.now whole.now.tree.now whole.now.order.now whole.now.listed.now) count lists.items) }
+    ensures { IfOk result (λ lists. EachList (AreSignals whole.now.piece.now whole.now.tree.now whole.now.order.now whole.now.listed.now []) count lists.items) }
 {
     let wires: &[Wire] = &beginning.wires;
     let channels = channels_of(alloc, wires, whole.piece.signals().len())?;

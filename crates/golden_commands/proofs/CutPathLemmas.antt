@@ -15,7 +15,8 @@ use Rattle.gg_cut_plan.specs.Direct.{plan_hub, plan_routes}
 use Rattle.gg_cut_plan.specs.Fault.{first_fault}
 use Rattle.gg_cut_plan.specs.Listed.{lies, listed_of}
 use Rattle.gg_cut_plan.specs.Plan.{wire_at}
-use Rattle.gg_cut_plan.specs.Seated.{plan_bridges, plan_wires, seated_wire}
+use Rattle.gg_cut_plan.specs.Ports.{plan_bridges}
+use Rattle.gg_cut_plan.specs.Seated.{plan_wires, seated_wire}
 use Rattle.gg_cut_plan.specs.declared.listed.Listed.{Listed}
 use Rattle.gg_cut_plan.specs.declared.wires.Wire.{Wire}
 use Rattle.gg_cut_plan.proofs.ChainLemmas.{lies-self}

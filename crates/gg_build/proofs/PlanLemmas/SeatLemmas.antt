@@ -12,13 +12,15 @@ use Rattle.gg_cut_plan.specs.Listed.{listed_of}
 use Rattle.gg_cut_plan.specs.Machines.{first_source, first_tray}
 use Rattle.gg_cut_plan.specs.inside.Machines.{machine_count}
 use Rattle.gg_cut_plan.specs.Plan.{channels_to, channels_from}
-use Rattle.gg_cut_plan.specs.inside.Seated.{AreBridges, IsKept}
-use Rattle.gg_cut_plan.specs.Seated.{Bridges, first_bridge, first_kept_tray, open_ins, output_count, plan_bridges, plan_wires, seat_of, seated, seated_wire, undriven, unseen}
+use Rattle.gg_cut_plan.specs.inside.Ports.{AreBridges}
+use Rattle.gg_cut_plan.specs.inside.Seated.{IsKept}
+use Rattle.gg_cut_plan.specs.Ports.{Bridges, first_bridge, first_kept_tray, open_ins, output_count, plan_bridges, undriven, unseen}
+use Rattle.gg_cut_plan.specs.Seated.{plan_wires, seat_of, seated, seated_wire}
 use Rattle.gg_bits.specs.Lists.{count_below, number_or}
-use Rattle.gg_cut_reference.proofs.FittingLemmas.BridgeLemmas.{are-bridges}
-use Rattle.gg_cut_reference.proofs.FittingLemmas.CountLemmas.{before-found}
+use Rattle.gg_cut_plan.proofs.PortLemmas.{are-bridges}
+use Rattle.gg_cut_plan.proofs.CountLemmas.{before-found, before-strict}
 use Rattle.gg_cut_reference.proofs.FittingLemmas.OpenLemmas.{in-place, ins-count}
-use Rattle.gg_cut_reference.proofs.FittingLemmas.SeatedLemmas.{before-strict, seat-low, seat-source, seat-tray}
+use Rattle.gg_cut_reference.proofs.FittingLemmas.SeatedLemmas.{seat-low, seat-source, seat-tray}
 use Rattle.gg_cut_reference.proofs.FittingLemmas.WireLemmas.{from-kept, to-kept}
 use Rattle.gg_cut_routes.specs.inside.Routes.{AreRoutes}
 use Rattle.gg_build.specs.inside.Given.{cut_of}

@@ -3,7 +3,8 @@
 use Rattle.std.specs.Prelude.{◌≡◌, ℕ, ◌<◌, ◌≤◌, ◌^◌, List, length}
 use Rattle.gg_cut_plan.specs.declared.wires.Wire.{Wire}
 use Rattle.gg_cut_plan.specs.Plan.{channels_from, channels_to, machine_names}
-use Rattle.gg_cut_plan.specs.Seated.{Bridges, first_bridge, first_kept_tray, machine_end, plan_bridges, plan_wires}
+use Rattle.gg_cut_plan.specs.Ports.{Bridges, first_bridge, first_kept_tray, machine_end, plan_bridges}
+use Rattle.gg_cut_plan.specs.Seated.{plan_wires}
 use Rattle.gg_cut_split.specs.inside.Spread.{AreLists}
 use Rattle.gg_cut_machines.specs.inside.Hosts.{AreHosts}
 use Rattle.gg_cut_machines.specs.inside.Seats.{AreTakers}

@@ -3,21 +3,12 @@
 use Rattle.std.specs.Prelude.{◌≡◌, ◌≢◌, ℕ, suc, ◌+◌, ◌-◌, ◌<◌, ◌^◌, List, [], ◌∷◌, ◌++◌, Bool, ◌==◌, if◌then◌else◌, Option, Some, None, length, map, codes, slice_index_or}
 use Rattle.gg_flat.specs.Line.{value_at}
 use Rattle.gg_flat_tree.specs.Tree.{path_at}
-use Rattle.gg_order.specs.Design.{Ordered}
 use Rattle.gg_partfile.specs.declared.request.BridgeEntry.{BridgeEntry}
-use Rattle.gg_partfile.specs.declared.request.Request.{Request}
-use Rattle.gg_cut_plan.specs.declared.listed.Listed.{Listed}
-use Rattle.gg_cut_plan.specs.declared.plan.Body.{Body}
-use Rattle.gg_cut_plan.specs.declared.plan.Body.TheVariants.{Bridge}
 use Rattle.gg_cut_plan.specs.declared.plan.BridgeBody.{BridgeBody}
-use Rattle.gg_cut_plan.specs.declared.plan.Machine.{Machine}
 use Rattle.gg_cut_plan.specs.declared.wires.Wire.{Wire}
-use Rattle.gg_cut_plan.specs.Alike.{AreAlike}
 use Rattle.gg_cut_plan.specs.Bridges.{Models, model_named}
-use Rattle.gg_cut_plan.specs.Direct.{Hub}
-use Rattle.gg_cut_plan.specs.Hosts.{host_of, leader}
-use Rattle.gg_cut_plan.specs.Plan.{channels_to, channels_from, port_place, wire_at, IsMachine}
-use Rattle.gg_cut_plan.specs.Seated.{Bridges, machine_end, seat_of, plan_bridges, plan_wires}
+use Rattle.gg_cut_plan.specs.Plan.{port_place, wire_at}
+use Rattle.gg_cut_plan.specs.Ports.{Bridges}
 use Rattle.gg_bits.specs.Lists.{count_below}
 
 -- ---- who takes the place of a port

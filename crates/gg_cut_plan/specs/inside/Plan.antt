@@ -1,7 +1,7 @@
 -- More on Plan: what no promise of the program reaches.
 -- Source: MEMOCODE 2009 (a network of machines that are latency-insensitive: an output depends only on the inputs
 -- that it is computed from); ICCAD 2019 (instances and memories of a target as models of their own).
-use Rattle.std.specs.Prelude.{◌≡◌, ◌⊎◌, ℕ, ◌<◌, ◌+◌, ◌-◌, List, ◌∷◌, ◌++◌, length, map, take, drop, codes, Contains}
+use Rattle.std.specs.Prelude.{◌≡◌, ◌⊎◌, ℕ, ◌<◌, List, ◌∷◌, ◌++◌, length, map, take, drop, codes, Contains}
 use Rattle.gg_flat.specs.Circuit.{FlatCircuit}
 use Rattle.gg_flat_tree.specs.Tree.{InstanceTree, path_at}
 use Rattle.gg_order.specs.Design.{Ordered}
@@ -11,7 +11,7 @@ use Rattle.gg_cut_plan.specs.declared.listed.Listed.{Listed}
 use Rattle.gg_cut_plan.specs.Listed.{owner_of}
 use Rattle.gg_cut_plan.specs.declared.wires.Wire.{Wire}
 use Rattle.gg_cut_plan.specs.Direct.{Hub, routes}
-use Rattle.gg_cut_plan.specs.Seated.{output_count}
+use Rattle.gg_cut_plan.specs.Ports.{output_count}
 use Rattle.gg_cut_plan.specs.Hosts.{host_of}
 use Rattle.gg_cut_plan.specs.Plan.{IsCutBody, IsInner, channels_from, channels_to, givens_of}
 

@@ -1,12 +1,8 @@
 -- More on Seated: what no promise of the program reaches.
 -- Source: ICCAD 2019 (bridges: models in the host's own code that stand at a target's ports).
-use Rattle.std.specs.Prelude.{◌≡◌, ℕ, ◌+◌, ◌-◌, ◌<◌, Some}
-use Rattle.gg_cut_plan.specs.Seated.{Bridges, first_bridge, seat_of}
-
--- bridges are among `count`
-pub record AreBridges (b : Bridges) : Type 0 where
-  pub drivers : (p k : ℕ) → b.driver p ≡ Some k → k < b.count
-  pub viewers : (p k : ℕ) → b.viewer p ≡ Some k → k < b.count
+use Rattle.std.specs.Prelude.{◌≡◌, ℕ, ◌+◌, ◌<◌, Some}
+use Rattle.gg_cut_plan.specs.Ports.{Bridges, first_bridge}
+use Rattle.gg_cut_plan.specs.Seated.{seat_of}
 
 -- no bridge takes the place of machine m
 abbrev pub IsKept : Bridges → ℕ → Type 0

@@ -1,18 +1,13 @@
--- What a bridge takes and gives, and the bridges of a request.
-use Rattle.std.proofs.Common.{◌≡◌, ℕ, ◌+◌, ◌-◌, ◌<◌, ◌≤◌, List, length, nat_lt, Bool, true, false, Option, Some, None, if◌then◌else◌, refl, sym, ◌∙◌, ap, inl, inr, ◌⊎◌, arith}
+-- What a bridge takes and gives.
+use Rattle.std.proofs.Common.{◌≡◌, ℕ, ◌+◌, ◌-◌, ◌<◌, ◌≤◌, Option, Some, None, sym, ◌∙◌, ap, inl, inr, ◌⊎◌, arith}
 use Rattle.std.specs.Prelude.{is_none}
 use Rattle.std.proofs.lemmas.Bool.{cases_lt}
-use Rattle.gg_flat.specs.Line.{value_at}
-use Rattle.gg_flat.specs.Circuit.{FlatCircuit}
-use Rattle.gg_flat_tree.specs.Tree.{path_at}
-use Rattle.gg_partfile.specs.declared.request.BridgeEntry.{BridgeEntry}
-use Rattle.gg_cut_plan.specs.Listed.{is_among}
-use Rattle.gg_cut_plan.specs.declared.listed.Listed.{Listed}
-use Rattle.gg_cut_plan.proofs.PathLemmas.{first_place-Some}
-use Rattle.gg_cut_plan.specs.Seated.{Bridges, undriven, unseen, first_kept_tray, first_bridge, seat_of, lister, bridges_of}
-use Rattle.gg_cut_plan.specs.inside.Seated.{AreBridges, IsSeen, IsDriven}
+use Rattle.gg_cut_plan.specs.Ports.{Bridges, undriven, unseen, first_kept_tray, first_bridge}
+use Rattle.gg_cut_plan.specs.Seated.{seat_of}
+use Rattle.gg_cut_plan.specs.inside.Seated.{IsSeen, IsDriven}
 use Rattle.gg_bits.specs.Lists.{count_below, number_or}
-use Rattle.gg_cut_reference.proofs.FittingLemmas.SeatedLemmas.{seat-low, seat-source, seat-tray, before-strict}
+use Rattle.gg_cut_plan.proofs.CountLemmas.{before-strict}
+use Rattle.gg_cut_reference.proofs.FittingLemmas.SeatedLemmas.{seat-low, seat-source, seat-tray}
 
 module _ (b : Bridges) where
   -- a number that is the bridge's own
@@ -49,19 +44,3 @@ module _ (b : Bridges) where
             is = at;
             driver = same-bridge k (first_bridge b) (b.first + count_below (undriven b) p) (b.driver p) (λ none. let up = before-strict (undriven b) p b.ins (ap is_none none) inside in omega (arith, up)) (sym (seat-source b p inside) ∙ ap (seat_of b) (sym at) ∙ is);
           }
-
--- ---- the bridges of a request
-
-lister-known : (ports : BridgeEntry → List (List ℕ)) (entries : List BridgeEntry) (path : List ℕ) (k : ℕ) → lister ports entries path ≡ Some k → k < length entries
-lister-known ports entries path k found = (first_place-Some (λ entry. is_among (ports entry) path) entries k found).within
-
-pub are-bridges : (circuit : FlatCircuit) (outputs : ℕ) (listed : Listed) (entries : List BridgeEntry) → AreBridges (bridges_of circuit outputs listed entries)
-are-bridges circuit outputs listed entries =
-    record {
-      drivers = λ p k found. lister-known (λ entry. entry.drives) entries (path_at circuit.paths (value_at circuit.ins p)) k found;
-      viewers = λ p k found. by (nat_lt p outputs) (lister (λ entry. entry.sees) entries (path_at circuit.paths (value_at circuit.outs p))) k (lister-known (λ entry. entry.sees) entries (path_at circuit.paths (value_at circuit.outs p)) k) found;
-    }
-  where
-    by : (b : Bool) (o : Option ℕ) (k : ℕ) → (o ≡ Some k → k < length entries) → (if b then o else None) ≡ Some k → k < length entries
-    by true o k known found = known found
-    by false o k known found = absurd (cc)

@@ -6,7 +6,8 @@ use Rattle.std.proofs.lemmas.List.{length-map}
 use Rattle.std.proofs.lemmas.List.FromFn.{get_or-range_with_len, length-range_with_len}
 use Rattle.gg_cut_plan.specs.declared.wires.Wire.{Wire}
 use Rattle.gg_cut_plan.specs.Plan.{wire_at, channels_to, channels_from, signals_of, givens_of}
-use Rattle.gg_cut_plan.specs.Seated.{Bridges, undriven, unseen, first_bridge, first_kept_tray, seat_of, seated_wire, seated}
+use Rattle.gg_cut_plan.specs.Ports.{Bridges, undriven, unseen, first_bridge, first_kept_tray}
+use Rattle.gg_cut_plan.specs.Seated.{seat_of, seated_wire, seated}
 use Rattle.gg_bits.specs.Lists.{count_below, number_or}
 use Rattle.gg_cut_reference.proofs.FittingLemmas.SeatedLemmas.{seat-low, seat-source, seat-tray}
 use Rattle.gg_cut_reference.proofs.FittingLemmas.WireLemmas.{filter-alike, same-test}

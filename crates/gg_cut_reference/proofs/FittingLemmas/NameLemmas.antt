@@ -10,11 +10,13 @@ use Rattle.gg_cut_plan.specs.declared.listed.Listed.{Listed}
 use Rattle.gg_cut_plan.specs.Listed.{listed_of, instance_of}
 use Rattle.gg_cut_plan.specs.inside.Plan.{cut_names, tray_names}
 use Rattle.gg_cut_plan.specs.Plan.{entry_at, machine_names, open_tray_names}
-use Rattle.gg_cut_plan.specs.Seated.{Bridges, undriven, unseen, first_bridge, machine_end, open_ins, open_outs, output_count, plan_bridges, seat_of}
-use Rattle.gg_cut_plan.specs.inside.Seated.{AreBridges, IsKept}
+use Rattle.gg_cut_plan.specs.Ports.{Bridges, undriven, unseen, first_bridge, machine_end, open_ins, open_outs, output_count, plan_bridges}
+use Rattle.gg_cut_plan.specs.Seated.{seat_of}
+use Rattle.gg_cut_plan.specs.inside.Ports.{AreBridges}
+use Rattle.gg_cut_plan.specs.inside.Seated.{IsKept}
 use Rattle.gg_bits.specs.Lists.{count_below}
 use Rattle.gg_cut_plan.proofs.TrayLemmas.{out-tray, halt-tray}
-use Rattle.gg_cut_reference.proofs.FittingLemmas.BridgeLemmas.{are-bridges}
+use Rattle.gg_cut_plan.proofs.PortLemmas.{are-bridges}
 use Rattle.gg_cut_reference.proofs.FittingLemmas.OpenLemmas.{ins-count, in-place, outs-count, out-place, stop-before}
 use Rattle.gg_cut_reference.proofs.FittingLemmas.SeatedLemmas.{Seat, low, source, tray, bridge, seat-kind}
 

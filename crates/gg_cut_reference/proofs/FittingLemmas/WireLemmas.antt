@@ -7,8 +7,10 @@ use Rattle.std.proofs.lemmas.List.FromFn.{get_or-range_with_len, length-range_wi
 use Rattle.gg_cut_plan.specs.declared.wires.Wire.{Wire}
 use Rattle.gg_cut_plan.specs.Channels.{wire}
 use Rattle.gg_cut_plan.specs.Plan.{wire_at, channels_to, channels_from}
-use Rattle.gg_cut_plan.specs.Seated.{Bridges, seat_of, seated_wire, seated}
-use Rattle.gg_cut_plan.specs.inside.Seated.{AreBridges, IsKept}
+use Rattle.gg_cut_plan.specs.Ports.{Bridges}
+use Rattle.gg_cut_plan.specs.Seated.{seat_of, seated_wire, seated}
+use Rattle.gg_cut_plan.specs.inside.Ports.{AreBridges}
+use Rattle.gg_cut_plan.specs.inside.Seated.{IsKept}
 use Rattle.gg_cut_reference.proofs.FittingLemmas.SeatedLemmas.{seat-once}
 
 pub filter-alike : (f g : ℕ → Bool) (xs : List ℕ) → ((i : ℕ) → i < length xs → f (get_or xs i 0) ≡ g (get_or xs i 0)) → filter f xs ≡ filter g xs

@@ -19,7 +19,7 @@ abbrev pub design : Ordered
 design = record { circuit = circuit; tree = tree; order = 0 ∷ 2 ∷ 4 ∷ 6 ∷ 7 ∷ 3 ∷ 5 ∷ 1 ∷ [] }
 
 abbrev pub wires : List Wire
-wires = wires_of circuit tree listed
+wires = wires_of circuit tree listed []
 
 hub : machine_text design both_units listed 0 ≡ codes "machine hub: host 0\n"
 hub = ap (λ (h : List ℕ). codes "machine hub: host " ++ h ++ codes "\n") (decimal_digit 0 (omega arith))

@@ -7,8 +7,10 @@ use Rattle.gg_partfile.specs.declared.request.Request.{Request}
 use Rattle.gg_cut_plan.specs.Listed.{listed_of}
 use Rattle.gg_cut_plan.specs.Plan.{channels_from, channels_to, entry_at, machine_names}
 use Rattle.gg_cut_plan.specs.inside.Plan.{cut_names}
-use Rattle.gg_cut_plan.specs.inside.Seated.{AreBridges, IsKept}
-use Rattle.gg_cut_plan.specs.Seated.{Bridges, first_bridge, plan_bridges, seat_of, seated}
+use Rattle.gg_cut_plan.specs.inside.Ports.{AreBridges}
+use Rattle.gg_cut_plan.specs.inside.Seated.{IsKept}
+use Rattle.gg_cut_plan.specs.Ports.{Bridges, first_bridge, plan_bridges}
+use Rattle.gg_cut_plan.specs.Seated.{seat_of, seated}
 use Rattle.gg_cut_plan.specs.declared.wires.Wire.{Wire}
 
 -- A machine keeps the channels that lead to it, if no bridge takes its place.

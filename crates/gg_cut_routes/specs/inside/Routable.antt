@@ -1,15 +1,15 @@
 -- What the channels of a cut are routed from.
 -- Source: ICCAD 2019 (instances that are marked lie apart, each a model of its own).
-use Rattle.std.specs.Prelude.{◌≡◌, ◌≢◌, ◌↔◌, ◌⊎◌, ℕ, ◌<◌, List, Bool, length, Contains, All, AllPairs}
+use Rattle.std.specs.Prelude.{◌≡◌, ◌≢◌, ◌↔◌, ◌⊎◌, ℕ, ◌<◌, List, [], Bool, length, Contains, All, AllPairs}
 use Rattle.gg_flat.specs.Circuit.{FlatCircuit}
 use Rattle.gg_flat.specs.WellFormed.{IsWellFormed}
 use Rattle.gg_flat_tree.specs.Tree.{InstanceTree, IsTree}
 use Rattle.gg_flat_tree.specs.Scoped.{IsScoped}
 use Rattle.gg_flat.specs.Order.{IsOrder}
 use Rattle.gg_part.specs.inside.Choice.{IsChoice}
+use Rattle.gg_cut_plan.specs.Ports.{ports_of, machine_end}
 use Rattle.gg_cut_plan.specs.declared.listed.Listed.{Listed}
 use Rattle.gg_cut_plan.specs.declared.wires.Wire.{Wire}
-use Rattle.gg_cut_plan.specs.inside.Machines.{machine_count}
 use Rattle.gg_cut_plan.specs.Channels.{wires_of}
 use Rattle.gg_cut_plan.specs.Plan.{channels_to, channels_from, signals_of, givens_of, Takes, HasMemory}
 use Rattle.gg_cut_plan.specs.inside.Plan.{Makes}
@@ -25,16 +25,16 @@ pub record CanRoute (circuit : FlatCircuit) (tree : InstanceTree) (order : List 
   pub scoped : IsScoped circuit tree
   pub ordered : IsOrder circuit order
   pub apart : AreApart tree listed
-  pub base : wires ≡ wires_of circuit tree listed
+  pub base : wires ≡ wires_of circuit tree listed []
   -- no two channels carry one signal
-  pub once : AllPairs (λ v w. v.signal ≢ w.signal) (wires_of circuit tree listed)
+  pub once : AllPairs (λ v w. v.signal ≢ w.signal) (wires_of circuit tree listed [])
   -- machines of the cut are at the ends of each channel
-  pub ends : All (AreEnds (machine_count circuit listed)) (wires_of circuit tree listed)
+  pub ends : All (AreEnds (machine_end (ports_of circuit tree listed []))) (wires_of circuit tree listed [])
   -- the hub's signals are just the signals that it makes or takes
-  pub signals : (s : ℕ) → Contains globals s ↔ (Makes circuit tree listed (wires_of circuit tree listed) 0 s ⊎ Takes (wires_of circuit tree listed) 0 s)
+  pub signals : (s : ℕ) → Contains globals s ↔ (Makes circuit tree listed (wires_of circuit tree listed []) 0 s ⊎ Takes (wires_of circuit tree listed []) 0 s)
   pub banks : (k : ℕ) → Contains memories k ↔ HasMemory tree listed 0 k
   -- they make a part; it gets what the hub's in-channels carry, and gives what its out-channels carry
-  pub choice : IsChoice circuit globals (signals_of (wires_of circuit tree listed) (channels_to (wires_of circuit tree listed) 0)) (givens_of (wires_of circuit tree listed) (channels_from (wires_of circuit tree listed) 0)) memories
+  pub choice : IsChoice circuit globals (signals_of (wires_of circuit tree listed []) (channels_to (wires_of circuit tree listed []) 0)) (givens_of (wires_of circuit tree listed []) (channels_from (wires_of circuit tree listed []) 0)) memories
 
 -- the marks are on the signals that leave the plan, and on no other signals of the circuit
 abbrev pub MarksGone : Hub → List Bool → Type 0

@@ -1,6 +1,6 @@
 -- What a split begins with.
 -- Source: ICCAD 2019 (instances that are marked lie apart, each a model of its own).
-use Rattle.std.specs.Prelude.{◌≡◌, ℕ, ◌<◌, ◌^◌, length}
+use Rattle.std.specs.Prelude.{◌≡◌, ℕ, ◌<◌, ◌^◌, [], length}
 use Rattle.gg_flat.specs.Line.{value_at}
 use Rattle.gg_order.specs.Design.{Ordered}
 use Rattle.gg_cut_plan.specs.Channels.{wires_of}
@@ -19,7 +19,7 @@ abbrev pub ordered_of : Whole → Ordered
 ordered_of whole = record { circuit = whole.piece.now; tree = whole.tree.now; order = whole.order.now }
 
 -- The numbers of the machines (there are fewer than 2^32), the machine of each instance, the machine of each signal by its instance, and the
--- channels.
+-- channels, all without bridges.
 pub record IsBeginning (whole : Whole) (beginning : Beginning) : Type 0 where
   pub numbers : beginning.numbering ≡ numbering_of whole.piece.now whole.listed.now
   pub few : machine_count whole.piece.now whole.listed.now < 2 ^ 32
@@ -27,4 +27,4 @@ pub record IsBeginning (whole : Whole) (beginning : Beginning) : Type 0 where
   pub owner : (k : ℕ) → k < length whole.tree.now.instances → value_at beginning.owners.items k ≡ owner_of_instance whole.tree.now whole.listed.now.units k
   pub holders_many : length beginning.holders.items ≡ length whole.piece.now.signals
   pub holder : (s : ℕ) → value_at beginning.holders.items s ≡ unit_or_hub (first_place (has_signal whole.tree.now s) whole.listed.now.units)
-  pub channels : beginning.wires.items ≡ wires_of whole.piece.now whole.tree.now whole.listed.now
+  pub channels : beginning.wires.items ≡ wires_of whole.piece.now whole.tree.now whole.listed.now []

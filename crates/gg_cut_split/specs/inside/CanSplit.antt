@@ -1,6 +1,6 @@
 -- What a split is made of.
 -- Source: ICCAD 2019 (instances that are marked lie apart, each a model of its own).
-use Rattle.std.specs.Prelude.{◌≡◌, ℕ, ◌<◌, ◌^◌, List, length}
+use Rattle.std.specs.Prelude.{◌≡◌, ℕ, ◌<◌, ◌^◌, List, [], length}
 use Rattle.gg_flat.specs.Circuit.{FlatCircuit}
 use Rattle.gg_flat.specs.WellFormed.{IsWellFormed}
 use Rattle.gg_flat_tree.specs.Tree.{InstanceTree, IsTree, memory_at}
@@ -19,4 +19,4 @@ pub record CanSplit (circuit : FlatCircuit) (tree : InstanceTree) (order : List 
   pub numbered : (place : ℕ) → place < length tree.memories → (memory_at tree place).memory ≡ place
   pub ordered : IsOrder circuit order
   pub apart : AreApart tree listed
-  pub few : length (wires_of circuit tree listed) < 2 ^ 32
+  pub few : length (wires_of circuit tree listed []) < 2 ^ 32

@@ -8,11 +8,11 @@ use Rattle.gg_cut_plan.specs.Channels.{wires_of}
 use Rattle.gg_cut_split.specs.inside.Share.{IsShareOf}
 use Rattle.gg_cut_split.specs.declared.share.Share.{Share}
 
--- what machine m of a cut has
+-- what machine m of a cut without bridges has
 abbrev pub IsShare : Ordered → Listed → ℕ → Share → Type 0
-IsShare design listed m share = IsShareOf design listed (wires_of design.circuit design.tree listed) m share.ins share.outs share.globals share.memories
+IsShare design listed m share = IsShareOf design listed (wires_of design.circuit design.tree listed []) m share.ins share.outs share.globals share.memories
 
--- what the machines of a cut have: one share for each machine
+-- what the machines of a cut without bridges have: one share for each machine
 pub record AreShares (design : Ordered) (listed : Listed) (shares : List Share) : Type 0 where
   pub many : length shares ≡ machine_count design.circuit listed
   pub each : (m : ℕ) (any : Share) → m < machine_count design.circuit listed → IsShare design listed m (slice_index_or shares m any)

@@ -7,6 +7,7 @@ use Rattle.gg_flat_tree.specs.Tree.{InstanceTree, memory_at}
 use Rattle.gg_cut_plan.specs.declared.wires.Wire.{Wire}
 use Rattle.gg_flat.specs.Circuit.{FlatCircuit}
 use Rattle.gg_flat.specs.inside.InOrder.{IsAlong}
+use Rattle.gg_partfile.specs.declared.request.BridgeEntry.{BridgeEntry}
 use Rattle.gg_cut_plan.specs.declared.listed.Listed.{Listed}
 use Rattle.gg_cut_plan.specs.Channels.{wire, wires_of}
 use Rattle.gg_cut_plan.specs.Plan.{wire_at, Takes, HasMemory}
@@ -23,6 +24,10 @@ pub record IsPut (test : ℕ → Bool) (number : ℕ) (old new : List (List ℕ)
   pub each : (m : ℕ) → m < length old → slice_index_or new m [] ≡ slice_index_or old m [] ++ (if test m then number ∷ [] else [])
 
 -- ---- channels
+
+-- the channel of a top input from a machine to the hub, machine 0
+abbrev pub source_wires : ℕ → ℕ → List Wire
+source_wires number signal = wire signal number 0 ∷ []
 
 -- the channel of a top output, from the machine that a table has for it
 abbrev pub held_wires : List ℕ → ℕ → ℕ → List Wire
@@ -67,8 +72,8 @@ memories_below tree owners n m = map (λ place. (memory_at tree place).memory) (
 -- ---- what the lists have to be
 
 -- exactly the signals that machine m makes or takes, along the order
-pub record AreSignals (circuit : FlatCircuit) (tree : InstanceTree) (order : List ℕ) (listed : Listed) (m : ℕ) (globals : List ℕ) : Type 0 where
-  pub just : (s : ℕ) → Contains globals s ↔ (Makes circuit tree listed (wires_of circuit tree listed) m s ⊎ Takes (wires_of circuit tree listed) m s)
+pub record AreSignals (circuit : FlatCircuit) (tree : InstanceTree) (order : List ℕ) (listed : Listed) (entries : List BridgeEntry) (m : ℕ) (globals : List ℕ) : Type 0 where
+  pub just : (s : ℕ) → Contains globals s ↔ (Makes circuit tree listed (wires_of circuit tree listed entries) m s ⊎ Takes (wires_of circuit tree listed entries) m s)
   pub along : IsAlong order globals
 
 -- exactly the memories that belong to machine m, ascending

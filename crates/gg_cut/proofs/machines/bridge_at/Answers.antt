@@ -5,7 +5,7 @@ use Rattle.gg_flat.specs.Circuit.{FlatCircuit}
 use Rattle.gg_partfile.specs.declared.request.BridgeEntry.{BridgeEntry}
 use Rattle.gg_cut_plan.specs.Models.{model_names}
 use Rattle.gg_cut_plan.specs.Plan.{IsBridgeBody, channels_from, channels_to}
-use Rattle.gg_cut_plan.specs.Seated.{first_bridge}
+use Rattle.gg_cut_plan.specs.Ports.{first_bridge}
 use Rattle.gg_cut_plan.specs.declared.wires.Wire.{Wire}
 use Rattle.gg_cut_parts.proofs.MachineLemmas.{from-below, to-below}
 use Rattle.gg_cut_machines.specs.inside.Drafted.{draft_bridges, draft_wires}

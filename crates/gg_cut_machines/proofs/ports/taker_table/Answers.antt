@@ -4,7 +4,7 @@ use Rattle.std.proofs.lemmas.List.{length-replicate}
 use Rattle.gg_flat.specs.Line.{value_at}
 use Rattle.gg_flat_tree.specs.Tree.{path_at}
 use Rattle.gg_cut_plan.specs.Listed.{is_among}
-use Rattle.gg_cut_plan.specs.Seated.{lister}
+use Rattle.gg_cut_plan.specs.Ports.{lister}
 use Rattle.gg_cut_machines.specs.inside.Seats.{ports_of}
 use Rattle.gg_cut_machines.proofs.PortLemmas.{behind-none, one_behind, taker-more, no-taker}
 use Rattle.gg_cut_machines.proofs.ports.taker_table.Goals as goal

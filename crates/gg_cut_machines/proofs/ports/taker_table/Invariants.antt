@@ -1,7 +1,7 @@
 use Rattle.std.proofs.Common.{◌≡◌, ℕ, ◌<◌, ◌-◌, length, drop}
 use Rattle.gg_flat.specs.Line.{value_at}
 use Rattle.gg_flat_tree.specs.Tree.{path_at}
-use Rattle.gg_cut_plan.specs.Seated.{lister}
+use Rattle.gg_cut_plan.specs.Ports.{lister}
 use Rattle.gg_cut_machines.specs.inside.Seats.{ports_of}
 use Rattle.gg_cut_machines.proofs.PortLemmas.{one_behind}
 use Rattle.gg_cut_machines.proofs.ports.taker_table.Given as goal

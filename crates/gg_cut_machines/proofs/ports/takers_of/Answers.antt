@@ -1,7 +1,7 @@
 use Rattle.std.proofs.Common.{nat_lt, ◌∙◌, arith}
 use Rattle.gg_flat.specs.Line.{value_at}
 use Rattle.gg_flat_tree.specs.Tree.{path_at}
-use Rattle.gg_cut_plan.specs.Seated.{lister}
+use Rattle.gg_cut_plan.specs.Ports.{lister}
 use Rattle.gg_cut_machines.specs.inside.Seats.{one_more, ports_of}
 use Rattle.gg_cut_machines.proofs.PortLemmas.{taken-as}
 use Rattle.gg_cut_machines.proofs.ports.takers_of.Goals as goal

@@ -1,6 +1,6 @@
 use Rattle.std.proofs.Common.{◌++◌, ◌<◌, ◌^◌, List, ℕ, length, map, sym, ◌∙◌, ap, subst, arith}
 use Rattle.std.specs.List.{range_with_len}
-use Rattle.gg_cut_plan.specs.Seated.{first_bridge, first_kept_tray}
+use Rattle.gg_cut_plan.specs.Ports.{first_bridge, first_kept_tray}
 use Rattle.gg_cut_machines.specs.inside.Drafted.{draft_bridges}
 use Rattle.gg_cut_machines.specs.inside.Seats.{seat_by}
 use Rattle.gg_cut_machines.proofs.SeatLemmas.{numbers-are, numbers-many, source-few, tray-few, plan-are, numbers-joined}

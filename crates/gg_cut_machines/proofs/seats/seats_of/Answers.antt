@@ -1,5 +1,5 @@
 use Rattle.std.proofs.Common.{◌<◌, ◌^◌, length, ◌∙◌, ap, arith}
-use Rattle.gg_cut_plan.specs.Seated.{machine_end}
+use Rattle.gg_cut_plan.specs.Ports.{machine_end}
 use Rattle.gg_cut_machines.specs.inside.Drafted.{draft_bridges}
 use Rattle.gg_cut_machines.proofs.WireLemmas.{ends-within, wires-planned}
 use Rattle.gg_cut_machines.proofs.seats.seats_of.Goals as goal

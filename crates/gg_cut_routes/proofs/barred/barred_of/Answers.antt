@@ -40,4 +40,4 @@ returns-clause-marks c = λ s lt.
     let all = take_all c.loop-entry.entry-index c.args.request.now.bridges (omega (arith, ap (λ (l : List BridgeEntry). length l) c.as_slice-entry-items.ensures, c.loop-entry-test.false)) in
     c.loop-entry.invariant.each s lt
     ∙ ap (λ (l : List BridgeEntry). is_marked c.in_ok-marks.marks.items s || is_input_of c.args.piece.now (all_driven l) s) all
-    ∙ ap (λ b. b || is_driven c.args.piece.now c.args.request.now s) (c.in_ok-marks.ensures.marks s lt ∙ ap (λ (l : List (List ℕ)). is_among l (path_at c.args.piece.now.paths s)) c.as_slice.ensures)
+    ∙ ap (λ b. b || is_driven c.args.piece.now c.args.request.now.bridges s) (c.in_ok-marks.ensures.marks s lt ∙ ap (λ (l : List (List ℕ)). is_among l (path_at c.args.piece.now.paths s)) c.as_slice.ensures)

@@ -2,7 +2,7 @@ use Rattle.std.proofs.Common.{length, ◌∙◌, ap, subst}
 use Rattle.gg_flat.specs.Circuit.{FlatCircuit}
 use Rattle.gg_order.specs.Design.{IsDesign}
 use Rattle.gg_cut_plan.specs.declared.listed.Listed.{Listed}
-use Rattle.gg_cut_plan.specs.Direct.{hub_of, is_piped, is_driven}
+use Rattle.gg_cut_plan.specs.Direct.{hub_of, is_piped}
 use Rattle.gg_cut_routes.specs.inside.Routes.{AreRoutes}
 use Rattle.gg_cut_routes.proofs.BarredTables.{marked-as, planned-wires, planned-gone}
 use Rattle.gg_cut_routes.proofs.plan.plan_routes.Goals as goal
@@ -28,5 +28,5 @@ returns-clause-gone c = λ s lt.
 pub returns-clause-sound : goal.returns-clause-sound
 returns-clause-sound c =
     let design = c.args.design.now in
-    subst (λ (l : Listed). AreRoutes design c.args.listed.now (hub_of design.circuit design.tree l (is_piped design.circuit c.args.request.now) (is_driven design.circuit c.args.request.now) c.args.request.now.direct)) c.requires.listed
-    (c.channels_routed.ensures design c.args.listed.now (is_piped design.circuit c.args.request.now) (is_driven design.circuit c.args.request.now) c.args.request.now.direct (record { formed = c.piece.ensures.formed; ordered = c.order.ensures.ordered }) c.requires.keeps c.requires.apart)
+    subst (λ (l : Listed). AreRoutes design c.args.listed.now (hub_of design.circuit design.tree l (is_piped design.circuit c.args.request.now) c.args.request.now.bridges c.args.request.now.direct)) c.requires.listed
+    (c.channels_routed.ensures design c.args.listed.now (is_piped design.circuit c.args.request.now) c.args.request.now.bridges c.args.request.now.direct (record { formed = c.piece.ensures.formed; ordered = c.order.ensures.ordered }) c.requires.keeps c.requires.apart)

@@ -1,4 +1,4 @@
-use Rattle.std.proofs.Common.{List, false, ◌∙◌, ap}
+use Rattle.std.proofs.Common.{List, [], false, ◌∙◌, ap}
 use Rattle.std.specs.Prelude.{slice_index_or}
 use Rattle.gg_order.specs.Design.{IsDesign}
 use Rattle.gg_order.specs.Marks.{is_marked}
@@ -17,16 +17,16 @@ routes_of-requires-clause-can c =
 
 pub returns-clause-wires : goal.returns-clause-wires
 returns-clause-wires c =
-    (routing-at c.args.design.now c.piece.result.now c.tree.result.now c.args.listed.now (is_marked c.args.barred.now) (λ s. false) c.args.direct c.in_ok-channels.channels.wires c.in_ok-channels.channels.gone c.piece.ensures.circuit c.tree.ensures.tree (c.in_ok-channels.ensures {u = tt})).channels
+    (routing-at c.args.design.now c.piece.result.now c.tree.result.now c.args.listed.now (is_marked c.args.barred.now) [] c.args.direct c.in_ok-channels.channels.wires c.in_ok-channels.channels.gone c.piece.ensures.circuit c.tree.ensures.tree (c.in_ok-channels.ensures {u = tt})).channels
 
 pub returns-clause-gone : goal.returns-clause-gone
 returns-clause-gone c =
-    (routing-at c.args.design.now c.piece.result.now c.tree.result.now c.args.listed.now (is_marked c.args.barred.now) (λ s. false) c.args.direct c.in_ok-channels.channels.wires c.in_ok-channels.channels.gone c.piece.ensures.circuit c.tree.ensures.tree (c.in_ok-channels.ensures {u = tt})).leaves
+    (routing-at c.args.design.now c.piece.result.now c.tree.result.now c.args.listed.now (is_marked c.args.barred.now) [] c.args.direct c.in_ok-channels.channels.wires c.in_ok-channels.channels.gone c.piece.ensures.circuit c.tree.ensures.tree (c.in_ok-channels.ensures {u = tt})).leaves
 
 pub returns-clause-sound : goal.returns-clause-sound
 returns-clause-sound c =
-    c.channels_routed.ensures c.args.design.now c.args.listed.now (is_marked c.args.barred.now) (λ s. false) c.args.direct (record { formed = c.piece.ensures.formed; ordered = c.order.ensures.ordered }) c.requires.keeps c.requires.apart
+    c.channels_routed.ensures c.args.design.now c.args.listed.now (is_marked c.args.barred.now) [] c.args.direct (record { formed = c.piece.ensures.formed; ordered = c.order.ensures.ordered }) c.requires.keeps c.requires.apart
 
 pub returns-in_err-channels-clause-sound : goal.returns-in_err-channels-clause-sound
 returns-in_err-channels-clause-sound c =
-    c.channels_routed.ensures c.args.design.now c.args.listed.now (is_marked c.args.barred.now) (λ s. false) c.args.direct (record { formed = c.piece.ensures.formed; ordered = c.order.ensures.ordered }) c.requires.keeps c.requires.apart
+    c.channels_routed.ensures c.args.design.now c.args.listed.now (is_marked c.args.barred.now) [] c.args.direct (record { formed = c.piece.ensures.formed; ordered = c.order.ensures.ordered }) c.requires.keeps c.requires.apart

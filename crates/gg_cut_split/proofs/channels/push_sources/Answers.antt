@@ -2,7 +2,8 @@ use Rattle.std.proofs.Common.{◌∙◌, [], ◌∷◌, ◌++◌, ap}
 use Rattle.gg_cut_plan.specs.declared.wires.Wire.{Wire}
 use Rattle.gg_flat.specs.Line.{value_at}
 use Rattle.gg_cut_plan.specs.Machines.{source_after}
-use Rattle.gg_cut_plan.specs.Channels.{wire, source_wires}
+use Rattle.gg_cut_plan.specs.Channels.{wire}
+use Rattle.gg_cut_split.specs.inside.Spread.{source_wires}
 use Rattle.gg_cut_split.proofs.NumberedLemmas.{numbered-pushed}
 use Rattle.gg_cut_split.proofs.channels.push_sources.Goals as goal
 

@@ -1,6 +1,7 @@
 use Rattle.std.proofs.Common.{◌≡◌, ◌++◌, take}
 use Rattle.gg_cut_plan.specs.Machines.{source_after}
-use Rattle.gg_cut_plan.specs.Channels.{numbered, source_wires}
+use Rattle.gg_cut_plan.specs.Channels.{numbered}
+use Rattle.gg_cut_split.specs.inside.Spread.{source_wires}
 use Rattle.gg_cut_split.proofs.channels.push_sources.Given as goal
 
 abbrev pub invariant-loop-place : goal.invariant-loop-place

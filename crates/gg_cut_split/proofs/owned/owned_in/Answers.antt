@@ -1,4 +1,4 @@
-use Rattle.std.proofs.Common.{List, ℕ, length, sym, ◌∙◌, ap, subst, arith}
+use Rattle.std.proofs.Common.{List, ℕ, [], length, sym, ◌∙◌, ap, subst, arith}
 use Rattle.gg_flat.specs.Line.{value_at}
 use Rattle.gg_cut_plan.specs.inside.Machines.{Counts}
 use Rattle.gg_cut_plan.specs.Plan.{IsInner}
@@ -27,5 +27,5 @@ returns-clause-signals c = λ s lt inner.
     let whole = c.args.whole.now in
     let begun = c.in_ok-beginning.ensures {u = tt} in
     ap (λ (l : List ℕ). value_at l s) c.from-2.ensures
-    ∙ sym (inner-owner whole.piece.now whole.tree.now whole.order.now whole.listed.now c.requires.formed c.requires.fitting c.requires.scoped c.requires.ordered c.requires.apart c.in_ok-beginning.beginning.holders.items begun.holder s lt
+    ∙ sym (inner-owner whole.piece.now whole.tree.now whole.order.now whole.listed.now [] c.requires.formed c.requires.fitting c.requires.scoped c.requires.ordered c.requires.apart c.in_ok-beginning.beginning.holders.items begun.holder s lt
     (subst (λ (l : List Wire). IsInner l s) (c.from.ensures ∙ begun.channels) inner))

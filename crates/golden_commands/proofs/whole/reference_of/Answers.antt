@@ -2,7 +2,8 @@ use Rattle.std.proofs.Common.{ℕ, ◌+◌, ◌^◌, ◌<◌, List, length, arit
 use Rattle.std.proofs.lemmas.List.{length-map}
 use Rattle.gg_cut_split.proofs.ClosedLemmas.FaultlessLemmas.{faultless-few}
 use Rattle.gg_cut_plan.specs.Direct.{plan_routes}
-use Rattle.gg_cut_plan.specs.Seated.{plan_bridges, seated_wire}
+use Rattle.gg_cut_plan.specs.Ports.{plan_bridges}
+use Rattle.gg_cut_plan.specs.Seated.{seated_wire}
 use Rattle.gg_cut_pipes.specs.inside.CanPipe.{CanPipe}
 use Rattle.golden_commands.specs.Case.{IsCase}
 use Rattle.golden_commands.specs.Partition.{Known}

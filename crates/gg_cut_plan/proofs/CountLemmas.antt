@@ -1,10 +1,50 @@
 -- How many items of a list a test keeps, and where they stand among those that it keeps.
-use Rattle.std.proofs.Common.{◌≡◌, ℕ, zero, suc, ◌+◌, ◌<◌, ◌≤◌, List, [], ◌∷◌, length, get_or, filter, Bool, true, false, refl, sym, ◌∙◌, ap, ap₂, subst, inl, inr, ◌⊎◌, arith}
+use Rattle.std.proofs.Common.{◌≡◌, ℕ, zero, suc, ◌+◌, ◌-◌, ◌<◌, ◌≤◌, List, [], ◌∷◌, length, get_or, filter, Bool, true, false, refl, sym, ◌∙◌, ap, ap₂, subst, inl, inr, ◌⊎◌, arith}
 use Rattle.std.specs.Prelude.{cond}
 use Rattle.std.proofs.lemmas.Bool.{cases_lt}
 use Rattle.gg_bits.specs.Lists.{one_if, count_below}
 
 -- ---- numbers
+
+one-or-none : (b : Bool) → one_if b ≤ 1
+one-or-none true = omega arith
+one-or-none false = omega arith
+
+before-more : (keeps : ℕ → Bool) (m k : ℕ) → count_below keeps m ≤ count_below keeps (m + k)
+before-more keeps m zero = let same : m + 0 ≡ m = omega arith in subst (λ n. count_below keeps m ≤ count_below keeps n) (sym same) (omega arith)
+before-more keeps m (suc k) =
+    let rest = before-more keeps m k in
+    let same : m + suc k ≡ suc (m + k) = omega arith in
+    subst (λ n. count_below keeps m ≤ count_below keeps n) (sym same) (omega (arith, rest))
+
+before-up : (keeps : ℕ → Bool) (m n : ℕ) → m ≤ n → count_below keeps m ≤ count_below keeps n
+before-up keeps m n le =
+    let same : m + (n - m) ≡ n = omega (arith, le) in
+    subst (λ n. count_below keeps m ≤ count_below keeps n) same (before-more keeps m (n - m))
+
+-- a number that is kept is counted in what is behind it
+pub before-strict : (keeps : ℕ → Bool) (m n : ℕ) → keeps m ≡ true → m < n → count_below keeps m < count_below keeps n
+before-strict keeps m n kept lt =
+    let up = before-up keeps (suc m) n (omega (arith, lt)) in
+    let one : one_if (keeps m) ≡ 1 = ap one_if kept in
+    omega (arith, up, one)
+
+-- two numbers that are kept and have as many before them are the same
+pub before-once : (keeps : ℕ → Bool) (m n : ℕ) → keeps m ≡ true → keeps n ≡ true → count_below keeps m ≡ count_below keeps n → m ≡ n
+before-once keeps m n a b same = by (cases_lt m n) (cases_lt n m)
+  where
+    by : (m < n) ⊎ (n ≤ m) → (n < m) ⊎ (m ≤ n) → m ≡ n
+    by (inl lt) other = absurd (let up = before-strict keeps m n a lt in omega (arith, up, same))
+    by (inr le) (inl lt) = absurd (let up = before-strict keeps n m b lt in omega (arith, up, same))
+    by (inr le) (inr ge) = omega (arith, le, ge)
+
+-- where all are kept, as many as there are
+pub before-all : (keeps : ℕ → Bool) (n : ℕ) → ((p : ℕ) → keeps p ≡ true) → count_below keeps n ≡ n
+before-all keeps zero all = refl
+before-all keeps (suc n) all =
+    let rest = before-all keeps n all in
+    let one : one_if (keeps n) ≡ 1 = ap one_if (all n) in
+    omega (arith, rest, one)
 
 -- the first number apart
 pub before-front : (keeps : ℕ → Bool) (n : ℕ) → count_below keeps (suc n) ≡ one_if (keeps 0) + count_below (λ p. keeps (suc p)) n
