@@ -8,9 +8,9 @@ use Rattle.gg_cut_plan.specs.declared.plan.Plan.{Plan}
 use Rattle.gg_cut_plan.specs.declared.plan.Machine as planned
 use Rattle.gg_cut_plan.specs.declared.plan.Channel.{Channel}
 use Rattle.gg_cut_plan.specs.declared.wires.Wire.{Wire as Link}
-use Rattle.gg_cut_plan.specs.Direct.{plan_routes}
+use Rattle.gg_cut_plan.specs.Direct.{plan_routes, plan_wires}
 use Rattle.gg_cut_plan.specs.Ports.{plan_bridges}
-use Rattle.gg_cut_plan.specs.Seated.{plan_wires, seated_wire}
+use Rattle.gg_cut_plan.specs.Seated.{seated_wire}
 use Rattle.gg_cut_plan.specs.Plan.{wire_at as link_at, channels_to, channels_from}
 use Rattle.gg_cut_plan.proofs.RangeLemmas.{filter-few}
 use Rattle.gg_cut_split.proofs.ClosedLemmas.FaultlessLemmas.{faultless-few}

@@ -13,8 +13,8 @@ pub mod KnownLemmas
 pub mod OwnerLemmas
 pub mod RangeLemmas
 pub mod ChannelLemmas
-pub mod TrayLemmas
 pub mod WireLemmas
+pub mod EntryLemmas
 pub mod OriginLemmas
 pub mod DirectLemmas
 pub mod SameLemmas

@@ -8,8 +8,7 @@ use Rattle.gg_flat_tree.specs.Tree.{InstanceTree, path_at}
 use Rattle.gg_partfile.specs.declared.request.BridgeEntry.{BridgeEntry}
 use Rattle.gg_cut_plan.specs.Listed.{is_among}
 use Rattle.gg_cut_plan.specs.declared.listed.Listed.{Listed}
-use Rattle.gg_cut_plan.specs.Machines.{first_source, first_tray}
-use Rattle.gg_cut_plan.specs.inside.Machines.{machine_count}
+use Rattle.gg_cut_plan.specs.Machines.{first_source}
 use Rattle.gg_cut_plan.specs.Ports.{Bridges, undriven, unseen, first_kept_tray, first_bridge, machine_end, giver_of, keeper_of, lister, bridges_of, ports_of}
 use Rattle.gg_cut_plan.specs.inside.Ports.{AreBridges}
 use Rattle.gg_cut_plan.proofs.CountLemmas.{before-all, before-once, before-strict}
@@ -105,6 +104,24 @@ module _ (b : Bridges) where
       by None e = absurd (let low = source-few b q inside e in let high = keeper-low b p in omega (arith, low, high, same))
       by (Some k) e = absurd (let low = tray-few b p lt none in omega (arith, low, same, giver-driven b q k e))
 
+-- ---- a bridge's ports
+
+-- the machine of a port tells which bridge has it
+module _ (b : Bridges) where
+  pub giver-at : (p k : ℕ) → p < b.ins → giver_of b p ≡ first_bridge b + k → b.driver p ≡ Some k
+  giver-at p k lt same = by (b.driver p) refl
+    where
+      by : (o : Option ℕ) → b.driver p ≡ o → b.driver p ≡ Some k
+      by None e = absurd (let low = source-few b p lt e in omega (arith, low, same))
+      by (Some j) e = e ∙ ap Some (let at = giver-driven b p j e in omega (arith, at, same))
+
+  pub keeper-at : (p k : ℕ) → p < b.outs → keeper_of b p ≡ first_bridge b + k → b.viewer p ≡ Some k
+  keeper-at p k lt same = by (b.viewer p) refl
+    where
+      by : (o : Option ℕ) → b.viewer p ≡ o → b.viewer p ≡ Some k
+      by None e = absurd (let low = tray-few b p lt e in omega (arith, low, same))
+      by (Some j) e = e ∙ ap Some (let at = keeper-seen b p j e in omega (arith, at, same))
+
 -- ---- the bridges of entries
 
 lister-known : (ports : BridgeEntry → List (List ℕ)) (entries : List BridgeEntry) (path : List ℕ) (k : ℕ) → lister ports entries path ≡ Some k → k < length entries
@@ -144,8 +161,8 @@ module _ (circuit : FlatCircuit) (tree : InstanceTree) (listed : Listed) where
   pub giver-plain : (p : ℕ) → giver_of (ports_of circuit tree listed []) p ≡ first_source listed + p
   giver-plain p = ap (λ n. first_source listed + n) (in-count p)
 
-  pub keeper-plain : (p : ℕ) → keeper_of (ports_of circuit tree listed []) p ≡ first_tray circuit listed + p
+  pub keeper-plain : (p : ℕ) → keeper_of (ports_of circuit tree listed []) p ≡ first_source listed + length circuit.ins + p
   keeper-plain p = keeper-open b p (unseen-plain p) ∙ ap₂ (λ i n. first_source listed + i + n) (in-count (length circuit.ins)) (out-count p)
 
-  pub end-plain : machine_end (ports_of circuit tree listed []) ≡ machine_count circuit listed
+  pub end-plain : machine_end (ports_of circuit tree listed []) ≡ first_source listed + length circuit.ins + length circuit.outs
   end-plain = let ins = in-count (length circuit.ins) in let outs = out-count (length circuit.outs) in omega (arith, ins, outs)

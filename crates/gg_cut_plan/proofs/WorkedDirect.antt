@@ -52,8 +52,8 @@ pair-piped = refl
 abbrev drives_x : BridgeEntry
 drives_x = record { name = codes "e"; sees = []; drives = codes "x" ∷ [] }
 
--- a bridge drives `x`: it is no origin, so `a.x` is not direct and `x` stays
-pair-driven : routes (hub_of circuit tree listed none (drives_x ∷ []) true) ≡ channel 0 0 3 0 ∷ channel 2 2 0 1 ∷ channel 3 7 2 1 ∷ channel 6 4 1 2 ∷ channel 1 5 1 4 ∷ []
+-- a bridge drives `x`: it produces no origin, so `a.x` is not direct and `x` stays
+pair-driven : routes (hub_of circuit tree listed none (drives_x ∷ []) true) ≡ channel 0 0 4 0 ∷ channel 2 2 0 1 ∷ channel 3 7 2 1 ∷ channel 6 4 1 2 ∷ channel 1 5 1 3 ∷ []
 pair-driven = refl
 
 -- ---- hubs by their lists
@@ -68,9 +68,8 @@ made_of signals owners base held =
       base = base;
       held = held;
       stops = [];
-      memory = λ m. m == 2;
+      silent = λ m. m == 2;
       piped = none;
-      driven = none;
       direct = true;
     }
 
@@ -81,7 +80,7 @@ two =
     (made_of
     (signal eight (Input 0) ∷ copy eight 4 ∷ copy eight 7 ∷ copy eight 0 ∷ signal eight (Held 0) ∷ signal eight (Held 0) ∷ signal eight (Computed (node eight (Ref 0) ∷ node eight (One Not 0) ∷ [])) ∷ signal eight (Held 1) ∷ [])
     (0 ∷ 0 ∷ 0 ∷ 1 ∷ 1 ∷ 1 ∷ 2 ∷ 2 ∷ []) (wire 0 3 0 ∷ wire 3 0 1 ∷ wire 4 1 0 ∷ wire 6 0 2 ∷ wire 7 2 0 ∷ wire 1 0 4 ∷ wire 2 0 5 ∷ []) [])
-    { memory = none }
+    { silent = none }
 
 -- `x` and `u.a` are a fork of the source
 fork : routes two ≡ channel 0 0 3 0 ∷ channel 3 0 3 1 ∷ channel 6 6 0 2 ∷ channel 1 4 1 4 ∷ channel 2 7 2 5 ∷ []

@@ -2,12 +2,8 @@
 -- the sources of what it drives and of the trays of what it sees. The machines that are left keep their order, and the bridges come after them.
 -- Source: ICCAD 2019 (bridges: models in the host's own code that stand at a target's ports).
 use Rattle.std.specs.Prelude.{ℕ, ◌+◌, ◌-◌, List, if◌then◌else◌, nat_lt, map}
-use Rattle.gg_flat.specs.Circuit.{FlatCircuit}
-use Rattle.gg_flat_tree.specs.Tree.{InstanceTree}
-use Rattle.gg_partfile.specs.declared.request.Request.{Request}
 use Rattle.gg_cut_plan.specs.declared.wires.Wire.{Wire}
-use Rattle.gg_cut_plan.specs.Ports.{Bridges, giver_of, keeper_of, plan_bridges}
-use Rattle.gg_cut_plan.specs.Direct.{plan_routes}
+use Rattle.gg_cut_plan.specs.Ports.{Bridges, giver_of, keeper_of}
 
 -- the new number of machine m
 abbrev pub seat_of : Bridges → ℕ → ℕ
@@ -20,7 +16,3 @@ seated_wire b w = record w { producer = seat_of b w.producer; consumer = seat_of
 -- all channels, at their machines' new numbers
 abbrev pub seated : Bridges → List Wire → List Wire
 seated b wires = map (seated_wire b) wires
-
--- the channels of the plan, between its machines
-abbrev pub plan_wires : FlatCircuit → InstanceTree → Request → List Wire
-plan_wires circuit tree request = seated (plan_bridges circuit tree request) (plan_routes circuit tree request)

@@ -26,13 +26,13 @@ module _ (circuit : FlatCircuit) (tree : InstanceTree) (listed : Listed) (formed
   word_of k r = (reader_at (readers_at circuit k) r).word
 
   word-free : (m k r : ℕ) → HasMemory tree listed m k → r < length (readers_at circuit k) → ¬ Taken the_hub base m (word_of k r)
-  word-free m k r has lt taken = words-made circuit tree listed [] formed fits scoped apart m k r has lt taken
+  word-free m k r has lt taken = words-made circuit tree listed entries formed fits scoped apart m k r has lt taken
 
   pub word-plain : (m k r : ℕ) → HasMemory tree listed m k → r < length (readers_at circuit k) → seen_by (hub_of circuit tree listed piped entries direct) m (reader_at (readers_at circuit k) r).word ≡ (reader_at (readers_at circuit k) r).word
   word-plain m k r has lt = seen-own the_hub base m (word_of k r) (λ taken. word-free m k r has lt (ins-before the_hub base m (word_of k r) taken))
 
   pub word-maker : (m k r : ℕ) → HasMemory tree listed m k → r < length (readers_at circuit k) → maker_of (hub_of circuit tree listed piped entries direct) (reader_at (readers_at circuit k) r).word ≡ m
-  word-maker m k r has lt = by (fields-closed circuit tree listed [] formed fits scoped apart m k (word_of k r) has field known)
+  word-maker m k r has lt = by (fields-closed circuit tree listed entries formed fits scoped apart m k (word_of k r) has field known)
     where
       field : Contains (memory_fields circuit k) (word_of k r)
       field = word-field circuit k r lt

@@ -55,7 +55,7 @@ module _ (circuit : FlatCircuit) (tree : InstanceTree) (listed : Listed) (formed
   -- the channel of a pipe, before the routing
   record IsOn (t : ℕ) : Type 0 where
     pub wire : Wire
-    pub among : Contains (wires_of circuit tree listed []) wire
+    pub among : Contains (wires_of circuit tree listed entries) wire
     pub is : wire.signal ≡ t
     pub taking : (m : ℕ) → takes (hub_of circuit tree listed piped entries direct) m t ≡ (wire.consumer == m)
 
@@ -94,7 +94,7 @@ module _ (circuit : FlatCircuit) (tree : InstanceTree) (listed : Listed) (formed
     Written : (k : ℕ) → IsWritten tree k s → maker_of (hub_of circuit tree listed piped entries direct) s ≡ owner_of_instance tree listed.units k → Stands s
     Datum : (j : ℕ) → j < length tree.memories → IsDatum circuit tree j s → Stands s
 
-  producer-low : (w : Wire) → Kind circuit tree listed [] w → ((place : ℕ) → place < length circuit.ins → w.signal ≢ value_at circuit.ins place) → w.producer < first_source listed
+  producer-low : (w : Wire) → Kind circuit tree listed entries w → ((place : ℕ) → place < length circuit.ins → w.signal ≢ value_at circuit.ins place) → w.producer < first_source listed
   producer-low w (OfInput f) plain = absurd (plain f.place f.known (ap (λ (v : Wire). v.signal) f.is))
   producer-low w (OfOutput f) plain = let low = owner-below circuit tree listed (value_at circuit.outs f.place) in let from = ap (λ (v : Wire). v.producer) f.is in omega (arith, low, from)
   producer-low w (OfPort p) plain = by p.port.is_input p.is
@@ -125,7 +125,7 @@ module _ (circuit : FlatCircuit) (tree : InstanceTree) (listed : Listed) (formed
           let w = found.item in
           let of : w.signal ≡ s = eqb-true w.signal s found.passes in
           subst (λ m. m < first_source listed) (sym (maker-wire hub base w.producer s (record { wire = w; among = found.among; producer = refl; is = of })))
-          (producer-low w (kind-of circuit tree listed [] w found.among) (λ place known same. plain place (ap (driver_at circuit) (sym of ∙ same) ∙ (formed.ins place known).1)))
+          (producer-low w (kind-of circuit tree listed entries w found.among) (λ place known same. plain place (ap (driver_at circuit) (sym of ∙ same) ∙ (formed.ins place known).1)))
       by (inr none) = subst (λ m. m < first_source listed) (sym (maker-inner hub base s none)) (owner-below circuit tree listed s)
 
   pub stands : (s : ℕ) → s < length circuit.signals → ((place : ℕ) → driver_at circuit s ≢ Input place) → Stands s
@@ -140,28 +140,28 @@ module _ (circuit : FlatCircuit) (tree : InstanceTree) (listed : Listed) (formed
           let found = any-finds (λ (w : Wire). w.signal == s) hub.base e in
           let w = found.item in
           let of : w.signal ≡ s = eqb-true w.signal s found.passes in
-          let low = producer-low w (kind-of circuit tree listed [] w found.among) (λ place known same.
+          let low = producer-low w (kind-of circuit tree listed entries w found.among) (λ place known same.
           plain place (ap (driver_at circuit) (sym of ∙ same) ∙ (formed.ins place known).1)) in
           from w.producer (maker-wire hub base w.producer s (record { wire = w; among = found.among; producer = refl; is = of }))
-          (made circuit tree listed [] fits scoped apart w.producer s low
-          (inr (subst (λ (l : List ℕ). Contains l s) (sym (givens-same circuit tree listed [] (channels_from (wires_of circuit tree listed []) w.producer)))
-          (subst (λ t. Contains (signals_of (wires_of circuit tree listed []) (channels_from (wires_of circuit tree listed []) w.producer)) t) of
-          (chosen-in (wires_of circuit tree listed []) (λ (v : Wire). v.producer == w.producer) w found.among (eq-eqb w.producer w.producer refl))))))
+          (made circuit tree listed entries fits scoped apart w.producer s low
+          (inr (subst (λ (l : List ℕ). Contains l s) (sym (givens-same circuit tree listed entries (channels_from (wires_of circuit tree listed entries) w.producer)))
+          (subst (λ t. Contains (signals_of (wires_of circuit tree listed entries) (channels_from (wires_of circuit tree listed entries) w.producer)) t) of
+          (chosen-in (wires_of circuit tree listed entries) (λ (v : Wire). v.producer == w.producer) w found.among (eq-eqb w.producer w.producer refl))))))
       by (inr none) =
           from (hub.owner s) (maker-inner hub base s none)
-          (made circuit tree listed [] fits scoped apart (hub.owner s) s (owner-below circuit tree listed s) (inl (lt, refl, inner)))
+          (made circuit tree listed entries fits scoped apart (hub.owner s) s (owner-below circuit tree listed s) (inl (lt, refl, inner)))
         where
-          inner : IsInner (wires_of circuit tree listed []) s
+          inner : IsInner (wires_of circuit tree listed entries) s
           inner c below e = clash (list_any (λ (w : Wire). w.signal == s) hub.base) (finds-any (λ (w : Wire). w.signal == s) hub.base (wire_at hub.base c) (wire-among hub.base c below) (eq-eqb (wire_at hub.base c).signal s e)) none
 
   -- ---- who takes a pipe
 
   -- the machine of an instance takes a pipe that is visible there exactly if it comes into the instance
   pub comes : (k t : ℕ) → HasPipe (hub_of circuit tree listed piped entries direct) base t → Comes circuit tree k t → takes (hub_of circuit tree listed piped entries direct) (owner_of_instance tree listed.units k) t ≡ true
-  comes k t h c = let o = on t h in o.taking (home k) ∙ eq-eqb o.wire.consumer (home k) (sym (comes-taken circuit tree listed formed fits scoped apart k t o.wire o.among o.is c))
+  comes k t h c = let o = on t h in o.taking (home k) ∙ eq-eqb o.wire.consumer (home k) (sym (comes-taken circuit tree listed entries formed fits scoped apart k t o.wire o.among o.is c))
 
   pub taken : (k t : ℕ) → HasPipe (hub_of circuit tree listed piped entries direct) base t → IsVisible tree k t → takes (hub_of circuit tree listed piped entries direct) (owner_of_instance tree listed.units k) t ≡ true → Comes circuit tree k t
-  taken k t h seen e = let o = on t h in taken-comes circuit tree listed formed fits scoped apart k t o.wire seen o.among o.is (sym (eqb-true o.wire.consumer (home k) (sym (o.taking (home k)) ∙ e)))
+  taken k t h seen e = let o = on t h in taken-comes circuit tree listed entries formed fits scoped apart k t o.wire seen o.among o.is (sym (eqb-true o.wire.consumer (home k) (sym (o.taking (home k)) ∙ e)))
 
   -- the machine of a memory takes a pipe in a field of the memory, unless it is its data
   pub field-taken : (j t : ℕ) → j < length tree.memories → IsFieldOf circuit tree j t → HasPipe (hub_of circuit tree listed piped entries direct) base t → (takes (hub_of circuit tree listed piped entries direct) (memory_owner tree listed j) t ≡ true) ⊎ IsDatum circuit tree j t
@@ -170,8 +170,8 @@ module _ (circuit : FlatCircuit) (tree : InstanceTree) (listed : Listed) (formed
       o : IsOn t
       o = on t h
 
-      f : IsListedField circuit tree listed formed fits scoped apart j t o.wire
-      f = field-channel circuit tree listed formed fits scoped apart j t o.wire lt field o.among o.is
+      f : IsListedField circuit tree listed entries formed fits scoped apart j t o.wire
+      f = field-channel circuit tree listed entries formed fits scoped apart j t o.wire lt field o.among o.is
 
       by : (o.wire.consumer ≡ first_memory listed + f.place) ⊎ (IsDatum circuit tree j t × (o.wire.consumer < first_memory listed)) → (takes hub (memory_owner tree listed j) t ≡ true) ⊎ IsDatum circuit tree j t
       by (inl e) = inl (o.taking (memory_owner tree listed j) ∙ eq-eqb o.wire.consumer (memory_owner tree listed j) (e ∙ sym f.owner))
@@ -183,13 +183,13 @@ module _ (circuit : FlatCircuit) (tree : InstanceTree) (listed : Listed) (formed
       o : IsOn t
       o = on t h
 
-      f : IsListedField circuit tree listed formed fits scoped apart j t o.wire
-      f = field-channel circuit tree listed formed fits scoped apart j t o.wire lt (datum-field circuit tree listed formed fits scoped apart j t d) o.among o.is
+      f : IsListedField circuit tree listed entries formed fits scoped apart j t o.wire
+      f = field-channel circuit tree listed entries formed fits scoped apart j t o.wire lt (datum-field circuit tree listed entries formed fits scoped apart j t d) o.among o.is
 
       by : j ≡ value_at listed.memories f.place → ⊥
       by same =
           let there = subst (λ n. IsDatum circuit tree n t) same d in
-          let one = channel-one circuit tree listed [] fits scoped apart o.wire (wire (reader_at (readers_at circuit (memory_at tree (value_at listed.memories f.place)).memory) there.reader).word (first_memory listed + f.place) (outside_memory tree listed f.place)) o.among (data-wire circuit tree listed [] f.place there.reader f.known there.there) (o.is ∙ sym there.is) in
+          let one = channel-one circuit tree listed entries fits scoped apart o.wire (wire (reader_at (readers_at circuit (memory_at tree (value_at listed.memories f.place)).memory) there.reader).word (first_memory listed + f.place) (outside_memory tree listed f.place)) o.among (data-wire circuit tree listed entries f.place there.reader f.known there.there) (o.is ∙ sym there.is) in
           let to = ap (λ (v : Wire). v.consumer) one in
           let low = unit_or_hub-below tree listed.units (memory_at tree (value_at listed.memories f.place)).instance in
           let takes = eqb-true o.wire.consumer (memory_owner tree listed j) (sym (o.taking (memory_owner tree listed j)) ∙ e) in
@@ -222,14 +222,14 @@ module _ (circuit : FlatCircuit) (tree : InstanceTree) (listed : Listed) (formed
       readers = readers_at circuit (memory_at tree (value_at listed.memories i)).memory
 
       maker : maker_of hub s ≡ first_memory listed + i
-      maker = maker-wire hub base (first_memory listed + i) s (record { wire = wire (reader_at readers d.reader).word (first_memory listed + i) (outside_memory tree listed i); among = data-wire circuit tree listed [] i d.reader lt d.there; producer = refl; is = d.is })
+      maker = maker-wire hub base (first_memory listed + i) s (record { wire = wire (reader_at readers d.reader).word (first_memory listed + i) (outside_memory tree listed i); among = data-wire circuit tree listed entries i d.reader lt d.there; producer = refl; is = d.is })
 
       to : ((reader_at readers d.reader).addr ≡ t) ⊎ ((reader_at readers d.reader).en ≡ t) → o.wire.consumer ≡ first_memory listed + i
-      to (inl e) = ap (λ (v : Wire). v.consumer) (channel-one circuit tree listed [] fits scoped apart o.wire (wire (reader_at readers d.reader).addr (outside_memory tree listed i) (first_memory listed + i)) o.among (addr-wire circuit tree listed [] i d.reader lt d.there) (o.is ∙ sym e))
-      to (inr e) = ap (λ (v : Wire). v.consumer) (channel-one circuit tree listed [] fits scoped apart o.wire (wire (reader_at readers d.reader).en (outside_memory tree listed i) (first_memory listed + i)) o.among (en-wire circuit tree listed [] i d.reader lt d.there) (o.is ∙ sym e))
+      to (inl e) = ap (λ (v : Wire). v.consumer) (channel-one circuit tree listed entries fits scoped apart o.wire (wire (reader_at readers d.reader).addr (outside_memory tree listed i) (first_memory listed + i)) o.among (addr-wire circuit tree listed entries i d.reader lt d.there) (o.is ∙ sym e))
+      to (inr e) = ap (λ (v : Wire). v.consumer) (channel-one circuit tree listed entries fits scoped apart o.wire (wire (reader_at readers d.reader).en (outside_memory tree listed i) (first_memory listed + i)) o.among (en-wire circuit tree listed entries i d.reader lt d.there) (o.is ∙ sym e))
 
   pub given-taken : (j s t : ℕ) → j < length tree.memories → Given j s t → HasPipe (hub_of circuit tree listed piped entries direct) base t → takes (hub_of circuit tree listed piped entries direct) (maker_of (hub_of circuit tree listed piped entries direct) s) t ≡ true
   given-taken j s t lt g h =
       let o = on t h in
-      let f = field-channel circuit tree listed formed fits scoped apart j t o.wire lt (given-field j s t g) o.among o.is in
+      let f = field-channel circuit tree listed entries formed fits scoped apart j t o.wire lt (given-field j s t g) o.among o.is in
       listed-given f.place s t f.known (subst (λ n. Given n s t) f.is g) h

@@ -205,7 +205,7 @@ module _ (design : Ordered) (request other : Request) (is : IsDesign design) (ke
       by h k (Datum j below d) there = datum h k j below d
       by h k (Written i written at) (Datum j below d) = datum h k j below d
       by h k (Written i written at) (Written j there to) =
-          let one = written-one circuit tree my-listed is.formed keeps.fitting keeps.scoped my-apart j i s there written in
+          let one = written-one circuit tree my-listed request.bridges is.formed keeps.fitting keeps.scoped my-apart j i s there written in
           ap (λ m. takes mine m t) at ∙ homes h k i (names.visible i written) ∙ ap (λ m. takes theirs m t) (sym (to ∙ ap (owner_of_instance tree their-listed.units) one))
 
   data-driver : (j s : ℕ) → (d : IsDatum design.circuit design.tree j s) → driver_at design.circuit s ≡ reader_driver (latency_at design.circuit (memory_at design.tree j).memory) (memory_at design.tree j).memory d.reader (reader_at (readers_at design.circuit (memory_at design.tree j).memory) d.reader)

@@ -21,7 +21,7 @@ use Rattle.gg_cut_plan.specs.declared.listed.Listed.{Listed}
 use Rattle.gg_cut_plan.specs.Listed.{listed_of}
 use Rattle.gg_cut_plan.specs.Fault.{first_fault}
 use Rattle.gg_cut_plan.specs.Plan.{wire_at, Takes, IsCutPart}
-use Rattle.gg_cut_plan.specs.Direct.{Hub, is_piped, plan_hub, plan_routes}
+use Rattle.gg_cut_plan.specs.Direct.{Hub, is_piped, plan_hub, plan_wires}
 use Rattle.gg_cut_plan.specs.Solves.{AreRows, stream}
 use Rattle.gg_cut_split.specs.inside.Apart.{AreApart}
 use Rattle.gg_cut_split.proofs.ClosedLemmas.FaultlessLemmas.{faultless-apart}
@@ -86,19 +86,19 @@ module _ (design : Ordered) (request : Request) (is : IsDesign design) (keeps : 
   pub plan-seen : (m : ℕ) → IsSeen design.circuit (pipes_of (plan_hub design.circuit design.tree request)) (plan_seen design request m)
   plan-seen m = all-seen hub base m
 
-  pub plan-own : (m s : ℕ) → ¬ Takes (plan_routes design.circuit design.tree request) m s → plan_seen design request m s ≡ s
+  pub plan-own : (m s : ℕ) → ¬ Takes (plan_wires design.circuit design.tree request) m s → plan_seen design request m s ≡ s
   plan-own m s free = seen-own hub base m s free
 
-  among : (c : ℕ) → c < length (plan_routes design.circuit design.tree request) → Contains (plan_routes design.circuit design.tree request) (wire_at (plan_routes design.circuit design.tree request) c)
-  among c lt = Contains-get_or (plan_routes design.circuit design.tree request) c any-wire lt
+  among : (c : ℕ) → c < length (plan_wires design.circuit design.tree request) → Contains (plan_wires design.circuit design.tree request) (wire_at (plan_wires design.circuit design.tree request) c)
+  among c lt = Contains-get_or (plan_wires design.circuit design.tree request) c any-wire lt
 
   -- what a channel's producer gives it sees as it is
-  pub plan-gives : (c : ℕ) → c < length (plan_routes design.circuit design.tree request) → plan_seen design request (wire_at (plan_routes design.circuit design.tree request) c).producer (wire_at (plan_routes design.circuit design.tree request) c).given ≡ (wire_at (plan_routes design.circuit design.tree request) c).given
-  plan-gives c lt = gives-seen hub base (wire_at (plan_routes design.circuit design.tree request) c) (among c lt)
+  pub plan-gives : (c : ℕ) → c < length (plan_wires design.circuit design.tree request) → plan_seen design request (wire_at (plan_wires design.circuit design.tree request) c).producer (wire_at (plan_wires design.circuit design.tree request) c).given ≡ (wire_at (plan_wires design.circuit design.tree request) c).given
+  plan-gives c lt = gives-seen hub base (wire_at (plan_wires design.circuit design.tree request) c) (among c lt)
 
   -- what its consumer sees; a tray keeps it
-  pub plan-kept : (c : ℕ) → c < length (plan_routes design.circuit design.tree request) → plan_seen design request (wire_at (plan_routes design.circuit design.tree request) c).consumer (wire_at (plan_routes design.circuit design.tree request) c).signal ≡ taken_as (plan_hub design.circuit design.tree request) (wire_at (plan_routes design.circuit design.tree request) c).signal
-  plan-kept c lt = takes-seen hub base (wire_at (plan_routes design.circuit design.tree request) c) (among c lt)
+  pub plan-kept : (c : ℕ) → c < length (plan_wires design.circuit design.tree request) → plan_seen design request (wire_at (plan_wires design.circuit design.tree request) c).consumer (wire_at (plan_wires design.circuit design.tree request) c).signal ≡ taken_as (plan_hub design.circuit design.tree request) (wire_at (plan_wires design.circuit design.tree request) c).signal
+  plan-kept c lt = takes-seen hub base (wire_at (plan_wires design.circuit design.tree request) c) (among c lt)
 
   -- ---- pieces
 
@@ -122,15 +122,15 @@ module _ (design : Ordered) (request : Request) (is : IsDesign design) (keeps : 
     rows-follow m part cut = follows hub base is.formed (holder_of hub) (keeper_of design.tree listed) m part (routed m part cut) (holders m part cut) start typed columns end rows run
 
     -- the signal of a channel has the column of what is given
-    pub rows-given : (c : ℕ) → c < length (plan_routes design.circuit design.tree request) → column rows (wire_at (plan_routes design.circuit design.tree request) c).signal ≡ column rows (wire_at (plan_routes design.circuit design.tree request) c).given
-    rows-given c lt = given-column hub base (plan_reference design request) (holder_of hub) (keeper_of design.tree listed) plan-made is.formed start typed columns end rows run (wire_at (plan_routes design.circuit design.tree request) c) (among c lt)
+    pub rows-given : (c : ℕ) → c < length (plan_wires design.circuit design.tree request) → column rows (wire_at (plan_wires design.circuit design.tree request) c).signal ≡ column rows (wire_at (plan_wires design.circuit design.tree request) c).given
+    rows-given c lt = given-column hub base (plan_reference design request) (holder_of hub) (keeper_of design.tree listed) plan-made is.formed start typed columns end rows run (wire_at (plan_wires design.circuit design.tree request) c) (among c lt)
 
     -- its consumer takes that, a cycle later and behind the pipe's token if the channel is piped
-    pub rows-taken : (c : ℕ) → c < length (plan_routes design.circuit design.tree request) → column rows (plan_seen design request (wire_at (plan_routes design.circuit design.tree request) c).consumer (wire_at (plan_routes design.circuit design.tree request) c).signal)
-        ≡ take end (stream start.cycle (plan_token design request start.state (wire_at (plan_routes design.circuit design.tree request) c).signal) (is_piped design.circuit request (wire_at (plan_routes design.circuit design.tree request) c).signal) (column rows (wire_at (plan_routes design.circuit design.tree request) c).signal))
+    pub rows-taken : (c : ℕ) → c < length (plan_wires design.circuit design.tree request) → column rows (plan_seen design request (wire_at (plan_wires design.circuit design.tree request) c).consumer (wire_at (plan_wires design.circuit design.tree request) c).signal)
+        ≡ take end (stream start.cycle (plan_token design request start.state (wire_at (plan_wires design.circuit design.tree request) c).signal) (is_piped design.circuit request (wire_at (plan_wires design.circuit design.tree request) c).signal) (column rows (wire_at (plan_wires design.circuit design.tree request) c).signal))
     rows-taken c lt =
-        let s = (wire_at (plan_routes design.circuit design.tree request) c).signal in
-        seen-column hub base (plan_reference design request) (holder_of hub) (keeper_of design.tree listed) plan-made is.formed start typed columns end rows run (wire_at (plan_routes design.circuit design.tree request) c) (among c lt)
+        let s = (wire_at (plan_wires design.circuit design.tree request) c).signal in
+        seen-column hub base (plan_reference design request) (holder_of hub) (keeper_of design.tree listed) plan-made is.formed start typed columns end rows run (wire_at (plan_wires design.circuit design.tree request) c) (among c lt)
         ∙ ap (λ l. take end (stream start.cycle (plan_token design request start.state s) (is_piped design.circuit request s) l)) (sym (rows-given c lt))
 
     -- an input of the top has, from the start on, what it was given

@@ -22,8 +22,8 @@ use Rattle.gg_cut_routes.proofs.ChoiceLemmas.{before, before-is, before-once, hu
 
 -- what the plain channels of a cut give
 pub record IsPlainCut (circuit : FlatCircuit) (tree : InstanceTree) (listed : Listed) (m : ℕ) : Type 0 where
-  pub choice : (globals memories : List ℕ) → ((s : ℕ) → Contains globals s ↔ (Makes circuit tree listed (wires_of circuit tree listed []) m s ⊎ Takes (wires_of circuit tree listed []) m s)) → AllPairs (λ a b. a ≢ b) globals → ((k : ℕ) → Contains memories k ↔ HasMemory tree listed m k) → AllPairs (λ a b. a ≢ b) memories
-      → IsChoice circuit globals (signals_of (wires_of circuit tree listed []) (channels_to (wires_of circuit tree listed []) m)) (givens_of (wires_of circuit tree listed []) (channels_from (wires_of circuit tree listed []) m)) memories
+  pub choice : (globals memories : List ℕ) → ((s : ℕ) → Contains globals s ↔ (Makes circuit tree listed (wires_of circuit tree listed entries) m s ⊎ Takes (wires_of circuit tree listed entries) m s)) → AllPairs (λ a b. a ≢ b) globals → ((k : ℕ) → Contains memories k ↔ HasMemory tree listed m k) → AllPairs (λ a b. a ≢ b) memories
+      → IsChoice circuit globals (signals_of (wires_of circuit tree listed entries) (channels_to (wires_of circuit tree listed entries) m)) (givens_of (wires_of circuit tree listed entries) (channels_from (wires_of circuit tree listed entries) m)) memories
 
 module _ (circuit : FlatCircuit) (tree : InstanceTree) (listed : Listed) (piped : ℕ → Bool) (entries : List BridgeEntry) (direct : Bool) (base : IsBase (hub_of circuit tree listed piped entries direct)) where
   abbrev pub the_hub : Hub

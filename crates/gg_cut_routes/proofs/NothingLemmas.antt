@@ -17,7 +17,7 @@ module _ (circuit : FlatCircuit) (tree : InstanceTree) (listed : Listed) (piped 
   hub = hub_of circuit tree listed piped entries false
 
   abbrev wires : List Wire
-  wires = wires_of circuit tree listed []
+  wires = wires_of circuit tree listed entries
 
   none-direct : (x : ℕ) (ws : List Wire) → list_any (λ (w : Wire). is_number x (direct_of hub w)) ws ≡ false
   none-direct x [] = refl
@@ -37,5 +37,5 @@ module _ (circuit : FlatCircuit) (tree : InstanceTree) (listed : Listed) (piped 
       by : (b : Bool) → b ≡ false → filter (λ (v : Wire). not (is_gone hub v.signal)) ws ≡ ws → cond (not b) (w ∷ filter (λ (v : Wire). not (is_gone hub v.signal)) ws) (filter (λ (v : Wire). not (is_gone hub v.signal)) ws) ≡ w ∷ ws
       by b e rest = ap (λ c. cond (not c) (w ∷ filter (λ (v : Wire). not (is_gone hub v.signal)) ws) (filter (λ (v : Wire). not (is_gone hub v.signal)) ws)) e ∙ ap (λ l. w ∷ l) rest
 
-  pub plain-routes : routes (hub_of circuit tree listed piped entries false) ≡ wires_of circuit tree listed []
+  pub plain-routes : routes (hub_of circuit tree listed piped entries false) ≡ wires_of circuit tree listed entries
   plain-routes = ap (map (route hub)) (all-stay wires) ∙ map-same (route hub) (λ w. w) wires (λ w. refl) ∙ map-id wires

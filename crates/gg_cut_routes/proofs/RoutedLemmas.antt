@@ -1,5 +1,5 @@
 -- The channels of the plan of a request without a fault are routed channels.
-use Rattle.std.proofs.Common.{◌≡◌, [], None}
+use Rattle.std.proofs.Common.{◌≡◌, None}
 use Rattle.gg_part.specs.KeepsToTree.{KeepsToTree}
 use Rattle.gg_order.specs.Design.{Ordered, IsDesign}
 use Rattle.gg_partfile.specs.declared.request.Request.{Request}
@@ -22,10 +22,10 @@ module _ (design : Ordered) (request : Request) (is : IsDesign design) (keeps : 
   pub routed-base : IsBase (plan_hub design.circuit design.tree request)
   routed-base =
       let listed = listed_of design.tree request in
-      cut-base design listed (is_piped design.circuit request) request.bridges request.direct is keeps apart (pairs-once design.circuit design.tree listed [] is.formed keeps.fitting keeps.scoped apart) (ends design.circuit design.tree listed [] keeps.fitting apart)
+      cut-base design listed (is_piped design.circuit request) request.bridges request.direct is keeps apart (pairs-once design.circuit design.tree listed request.bridges is.formed keeps.fitting keeps.scoped apart) (ends design.circuit design.tree listed request.bridges keeps.fitting apart)
 
-  pub plan-routed : AreRoutes design (listed_of design.tree request) (plan_hub design.circuit design.tree request)
+  pub plan-routed : AreRoutes design (listed_of design.tree request) request.bridges (plan_hub design.circuit design.tree request)
   plan-routed =
       let listed = listed_of design.tree request in
-      are-routes design listed (is_piped design.circuit request) request.bridges request.direct is keeps apart (pairs-once design.circuit design.tree listed [] is.formed keeps.fitting keeps.scoped apart) (ends design.circuit design.tree listed [] keeps.fitting apart) (λ m globals memories low signals once banks memories-once.
-      choice design.circuit design.tree listed [] is.formed keeps.fitting keeps.scoped apart m globals memories low signals once banks memories-once)
+      are-routes design listed (is_piped design.circuit request) request.bridges request.direct is keeps apart (pairs-once design.circuit design.tree listed request.bridges is.formed keeps.fitting keeps.scoped apart) (ends design.circuit design.tree listed request.bridges keeps.fitting apart) (λ m globals memories low signals once banks memories-once.
+      choice design.circuit design.tree listed request.bridges is.formed keeps.fitting keeps.scoped apart m globals memories low signals once banks memories-once)

@@ -114,7 +114,7 @@ module _ (circuit : FlatCircuit) (tree : InstanceTree) (listed : Listed) (entrie
       omega (arith, is, e, own, low)
 
   module _ (hub : Hub) (base : IsBase hub) (is : hub.base ≡ wires_of circuit tree listed entries) where
-    ends-at : (v : Wire) → Contains hub.base v → Ends v
+    pub ends-at : (v : Wire) → Contains hub.base v → Ends v
     ends-at v h = ends-of v (kind-of circuit tree listed entries v (subst (λ (l : List Wire). Contains l v) is h))
 
     pub source-routes : (p : ℕ) → p < length circuit.ins → (ports_of circuit tree listed entries).driver p ≡ None → GivesInput (routes hub) (giver_of (ports_of circuit tree listed entries) p) (value_at circuit.ins p)

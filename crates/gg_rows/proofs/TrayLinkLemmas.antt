@@ -7,10 +7,9 @@ use Rattle.gg_flat.specs.Run.{Start, row_at}
 use Rattle.gg_order.specs.Design.{Ordered}
 use Rattle.gg_partfile.specs.declared.request.Request.{Request}
 use Rattle.gg_cut_plan.specs.Bridges.{Models}
-use Rattle.gg_cut_plan.specs.Direct.{plan_hub, plan_routes}
+use Rattle.gg_cut_plan.specs.Direct.{plan_hub, plan_routes, plan_wires}
 use Rattle.gg_cut_plan.specs.Plan.{wire_at, channels_to}
 use Rattle.gg_cut_plan.specs.Ports.{first_bridge, first_kept_tray, open_outs, output_count, plan_bridges}
-use Rattle.gg_cut_plan.specs.Seated.{plan_wires}
 use Rattle.gg_cut_plan.specs.Solves.{columns_of, streams}
 use Rattle.gg_cut_plan.specs.declared.plan.Plan.{Plan}
 use Rattle.gg_cut_reference.proofs.FittingLemmas.OpenLemmas.{outs-count}

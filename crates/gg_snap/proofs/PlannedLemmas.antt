@@ -16,12 +16,12 @@ use Rattle.gg_cut_plan.specs.declared.plan.Channel.{Channel}
 use Rattle.gg_cut_plan.specs.declared.plan.Plan.{Plan}
 use Rattle.gg_cut_plan.specs.declared.wires.Wire.{Wire}
 use Rattle.gg_cut_plan.specs.Bridges.{Models}
-use Rattle.gg_cut_plan.specs.Direct.{Hub, is_piped, plan_hub, routes}
+use Rattle.gg_cut_plan.specs.Direct.{Hub, is_piped, plan_hub, routes, plan_wires}
 use Rattle.gg_cut_plan.specs.Fault.{first_fault}
 use Rattle.gg_cut_plan.specs.Listed.{first_place}
 use Rattle.gg_cut_plan.specs.Plan.{IsPlan, wire_at}
 use Rattle.gg_cut_plan.specs.Ports.{Bridges, plan_bridges}
-use Rattle.gg_cut_plan.specs.Seated.{plan_wires, seated_wire}
+use Rattle.gg_cut_plan.specs.Seated.{seated_wire}
 use Rattle.gg_cut_plan.proofs.OriginLemmas.{any-finds, finds-any}
 use Rattle.gg_cut_reference.proofs.FittingLemmas.LowLemmas.{wire-signal}
 use Rattle.gg_cut_split.proofs.ClosedLemmas.PlaceLemmas.{same-bool}

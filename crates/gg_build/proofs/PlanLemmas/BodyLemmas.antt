@@ -14,9 +14,29 @@ use Rattle.gg_cut_plan.specs.declared.plan.Body.TheVariants.{Cut, Source, Bridge
 use Rattle.gg_cut_plan.specs.declared.plan.Plan.{Plan}
 use Rattle.gg_cut_plan.specs.Bridges.{Models, model_of}
 use Rattle.gg_cut_plan.specs.declared.plan.BridgeBody.{BridgeBody}
+<<<<<<< /tmp/cutm/m.antt
+||||||| /tmp/cutm/base/crates/gg_build/proofs/PlanLemmas/BodyLemmas.antt
+use Rattle.gg_cut_plan.specs.Direct.{plan_hub, plan_routes}
+=======
+use Rattle.gg_cut_plan.specs.Direct.{plan_hub, plan_routes, plan_wires}
+>>>>>>> /tmp/cutm/two/crates/gg_build/proofs/PlanLemmas/BodyLemmas.antt
 use Rattle.gg_cut_plan.specs.Machines.{first_source}
+<<<<<<< /tmp/cutm/m.antt
 use Rattle.gg_cut_plan.specs.Seated.{first_bridge}
 use Rattle.gg_cut_plan.specs.Plan.{wire_at as link_at, entry_at}
+||||||| /tmp/cutm/base/crates/gg_build/proofs/PlanLemmas/BodyLemmas.antt
+use Rattle.gg_cut_plan.specs.Seated.{first_bridge, open_ins, plan_bridges, plan_wires}
+use Rattle.gg_bridge.specs.Model.{IsModel}
+use Rattle.gg_bridge.specs.inside.Hosted.{ArePorts}
+use Rattle.gg_cut_reference.specs.whole.Whole.{plan_circuit}
+use Rattle.gg_cut_plan.specs.Plan.{wire_at as link_at, entry_at, IsBody}
+=======
+use Rattle.gg_cut_plan.specs.Ports.{first_bridge, open_ins, plan_bridges}
+use Rattle.gg_bridge.specs.Model.{IsModel}
+use Rattle.gg_bridge.specs.inside.Hosted.{ArePorts}
+use Rattle.gg_cut_reference.specs.whole.Whole.{plan_circuit}
+use Rattle.gg_cut_plan.specs.Plan.{wire_at as link_at, entry_at, IsBody}
+>>>>>>> /tmp/cutm/two/crates/gg_build/proofs/PlanLemmas/BodyLemmas.antt
 use Rattle.gg_cut_plan.proofs.RangeLemmas.{filter-few}
 use Rattle.gg_build.specs.plan.Built.{machine_in, IsGiven}
 use Rattle.gg_cut_reference.proofs.WholeLemmas.PortLemmas.{plan-ins}

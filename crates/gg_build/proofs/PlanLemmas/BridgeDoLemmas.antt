@@ -11,9 +11,25 @@ use Rattle.gg_order.proofs.RunsLemmas.SinceLemmas.{later-since, row-dropped}
 use Rattle.gg_part.specs.PartRun.{part_rows}
 use Rattle.gg_cut_plan.specs.declared.plan.Body.TheVariants.{Bridge}
 use Rattle.gg_cut_plan.specs.declared.plan.BridgeBody.{BridgeBody}
+<<<<<<< /tmp/cutm/m.antt
 use Rattle.gg_cut_plan.specs.Bridges.{model_of}
 use Rattle.gg_cut_plan.specs.Plan.{wire_at as link_at, channels_to, channels_from, signals_of, givens_of}
 use Rattle.gg_cut_plan.specs.Seated.{first_bridge}
+||||||| /tmp/cutm/base/crates/gg_build/proofs/PlanLemmas/BridgeDoLemmas.antt
+use Rattle.gg_cut_plan.specs.declared.wires.Wire.{Wire as Link}
+use Rattle.gg_cut_plan.specs.Bridges.{Models, model_of}
+use Rattle.gg_cut_plan.specs.Direct.{Hub, plan_hub, plan_routes}
+use Rattle.gg_cut_plan.specs.Held.{AreHeldOnce}
+use Rattle.gg_cut_plan.specs.Plan.{wire_at as link_at, channels_to, channels_from, signals_of, givens_of, IsBridgeBody}
+use Rattle.gg_cut_plan.specs.Seated.{first_bridge, plan_bridges, plan_wires}
+=======
+use Rattle.gg_cut_plan.specs.declared.wires.Wire.{Wire as Link}
+use Rattle.gg_cut_plan.specs.Bridges.{Models, model_of}
+use Rattle.gg_cut_plan.specs.Direct.{Hub, plan_hub, plan_routes, plan_wires}
+use Rattle.gg_cut_plan.specs.Held.{AreHeldOnce}
+use Rattle.gg_cut_plan.specs.Plan.{wire_at as link_at, channels_to, channels_from, signals_of, givens_of, IsBridgeBody}
+use Rattle.gg_cut_plan.specs.Ports.{first_bridge, plan_bridges}
+>>>>>>> /tmp/cutm/two/crates/gg_build/proofs/PlanLemmas/BridgeDoLemmas.antt
 use Rattle.gg_cut_plan.specs.Solves.{AreRows, model_start}
 use Rattle.gg_cut_reference.specs.Links.{taken_as}
 use Rattle.gg_cut_reference.proofs.PipeLemmas.{since-less}

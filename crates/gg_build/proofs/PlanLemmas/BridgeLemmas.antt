@@ -17,10 +17,27 @@ use Rattle.gg_cut_plan.specs.declared.plan.BridgeBody.{BridgeBody}
 use Rattle.gg_cut_plan.specs.declared.wires.Wire.{Wire as Link}
 use Rattle.gg_cut_plan.specs.Bridges.{model_named, model_of, model_or, shapes_at}
 use Rattle.gg_cut_plan.specs.Channels.{wire}
+<<<<<<< /tmp/cutm/m.antt
 use Rattle.gg_cut_plan.specs.Direct.{is_driven, is_input}
+||||||| /tmp/cutm/base/crates/gg_build/proofs/PlanLemmas/BridgeLemmas.antt
+use Rattle.gg_cut_plan.specs.Direct.{Hub, is_driven, is_input, plan_hub, plan_routes}
+use Rattle.gg_cut_plan.specs.Listed.{listed_of}
+=======
+use Rattle.gg_cut_plan.specs.Direct.{Hub, is_driven, is_input, plan_hub, plan_routes, plan_wires}
+use Rattle.gg_cut_plan.specs.Listed.{listed_of}
+>>>>>>> /tmp/cutm/two/crates/gg_build/proofs/PlanLemmas/BridgeLemmas.antt
 use Rattle.gg_cut_plan.specs.Machines.{first_source, first_tray}
+<<<<<<< /tmp/cutm/m.antt
 use Rattle.gg_cut_plan.specs.Plan.{wire_at as link_at, channels_to, channels_from, entry_at, port_place, signals_of, givens_of}
 use Rattle.gg_cut_plan.specs.Seated.{first_bridge, output_count, seat_of, first_kept_tray, unseen}
+||||||| /tmp/cutm/base/crates/gg_build/proofs/PlanLemmas/BridgeLemmas.antt
+use Rattle.gg_cut_plan.specs.Plan.{wire_at as link_at, channels_to, channels_from, entry_at, port_place, signals_of, givens_of, IsBridgeBody}
+use Rattle.gg_cut_plan.specs.Seated.{Bridges, first_bridge, output_count, plan_bridges, plan_wires, seat_of, first_kept_tray, unseen}
+=======
+use Rattle.gg_cut_plan.specs.Plan.{wire_at as link_at, channels_to, channels_from, entry_at, port_place, signals_of, givens_of, IsBridgeBody}
+use Rattle.gg_cut_plan.specs.Ports.{Bridges, first_bridge, output_count, plan_bridges, first_kept_tray, unseen}
+use Rattle.gg_cut_plan.specs.Seated.{seat_of}
+>>>>>>> /tmp/cutm/two/crates/gg_build/proofs/PlanLemmas/BridgeLemmas.antt
 use Rattle.gg_cut_plan.specs.inside.Seated.{IsDriven as IsDrivenBy, IsSeen as IsSeenBy}
 use Rattle.gg_bits.specs.Lists.{number_or, count_below}
 use Rattle.gg_cut_plan.proofs.OriginLemmas.{chain-end, clash}
@@ -247,7 +264,7 @@ module _ (given : Given) (m : ℕ) (bridge : BridgeBody) (body : IsBodyAt given 
   is-base = routed-base design request can.design_is can.keeps (no-fault given)
 
   -- a channel that is given by an input that a bridge drives isn't direct
-  plain-link : (r : Link) → Contains base r → is_driven circuit request r.given ≡ true → r.given ≡ r.signal
+  plain-link : (r : Link) → Contains base r → is_driven circuit request.bridges r.given ≡ true → r.given ≡ r.signal
   plain-link r h driven = by (out-routes hub is-base r h)
     where
       of : (w : IsRoute hub is-base r) → Routing hub is-base w.wire → r.given ≡ r.signal
@@ -255,7 +272,7 @@ module _ (given : Given) (m : ℕ) (bridge : BridgeBody) (body : IsBodyAt given 
       of w (Direct x e d into) =
           let is : x ≡ r.given = sym (direct-given hub is-base w.wire x e) ∙ ap (λ (q : Link). q.given) w.is in
           let end = chain-end hub (length circuit.signals) d.next x d.from in
-          absurd (clash (is_driven circuit request x) (ap (is_driven circuit request) is ∙ driven) end.free)
+          absurd (clash (is_driven circuit request.bridges x) (ap (is_driven circuit request.bridges) is ∙ driven) end.free)
 
       by : IsRoute hub is-base r → r.given ≡ r.signal
       by w = of w (routing hub is-base w.wire)
@@ -294,9 +311,19 @@ module _ (given : Given) (m : ℕ) (bridge : BridgeBody) (body : IsBodyAt given 
           let is : (link_at base c).given ≡ s = ((is-routed given).sources driven.place driven.known).all (link_at base c).given (subst (λ k. Contains (givens_of base (channels_from base k)) (link_at base c).given) driven.is own) in
           let drives = (driver-has circuit design.tree request driven.place place_of_entry driven.driver).1 in
           let input : is_input (driver_at circuit s) ≡ true = ap is_input (can.design_is.formed.ins driven.place driven.known).1 in
+<<<<<<< /tmp/cutm/m.antt
           let among = among-contains (all_driven request.bridges) (path s) (listed-by (λ entry. entry.drives) request.bridges place_of_entry nothing (path s) body.1.known drives) in
           let own_driven : is_driven circuit request s ≡ true = ap₂ (λ x y. x && y) input among in
           let plain = plain-link (link_at base c) (Contains-get_or base c (wire 0 0 0) low) (ap (is_driven circuit request) is ∙ own_driven) in
+||||||| /tmp/cutm/base/crates/gg_build/proofs/PlanLemmas/BridgeLemmas.antt
+          let among = among-contains (all_driven request.bridges) (path s) (listed-by (λ entry. entry.drives) request.bridges place_of_entry nothing (path s) body.known drives) in
+          let own_driven : is_driven circuit request s ≡ true = ap₂ (λ x y. x && y) input among in
+          let plain = plain-link (link_at base c) (Contains-get_or base c (wire 0 0 0) low) (ap (is_driven circuit request) is ∙ own_driven) in
+=======
+          let among = among-contains (all_driven request.bridges) (path s) (listed-by (λ entry. entry.drives) request.bridges place_of_entry nothing (path s) body.known drives) in
+          let own_driven : is_driven circuit request.bridges s ≡ true = ap₂ (λ x y. x && y) input among in
+          let plain = plain-link (link_at base c) (Contains-get_or base c (wire 0 0 0) low) (ap (is_driven circuit request.bridges) is ∙ own_driven) in
+>>>>>>> /tmp/cutm/two/crates/gg_build/proofs/PlanLemmas/BridgeLemmas.antt
           record {
             known = low;
             signal = (is-routed given).known c (wire 0 0 0) low;

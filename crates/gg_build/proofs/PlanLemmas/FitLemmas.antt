@@ -12,8 +12,15 @@ use Rattle.gg_cut_plan.specs.declared.plan.Body.{Body}
 use Rattle.gg_cut_plan.specs.declared.plan.Body.TheVariants.{Cut, Memory, Source, Tray, Bridge}
 use Rattle.gg_cut_plan.specs.declared.wires.Wire.{Wire as Link}
 use Rattle.gg_cut_plan.specs.Machines.{first_source, first_tray}
+<<<<<<< ours
 use Rattle.gg_cut_plan.specs.Direct.{Hub, routes}
 use Rattle.gg_cut_plan.specs.Plan.{wire_at as link_at, channels_to, channels_from, IsCutPart}
+=======
+use Rattle.gg_cut_plan.specs.Bridges.{Models}
+use Rattle.gg_cut_plan.specs.Direct.{Hub, routes, plan_hub, plan_wires}
+use Rattle.gg_cut_plan.specs.Plan.{wire_at as link_at, channels_to, channels_from, IsCutPart, IsBody, IsPlan}
+use Rattle.gg_cut_routes.specs.inside.Routes.{AreRoutes}
+>>>>>>> theirs
 use Rattle.gg_bridge.specs.Turned.{turned}
 use Rattle.gg_memunit.specs.MemoryUnit.{count_of, needs_of, ports_of}
 use Rattle.gg_node.specs.Machine.{Machine, Port, machine_at, no_machine}

@@ -11,7 +11,17 @@ use Rattle.gg_cut_plan.specs.declared.plan.Body.TheVariants.{Memory as Listing}
 use Rattle.gg_cut_plan.specs.declared.plan.Plan.{Plan}
 use Rattle.gg_cut_plan.specs.Bridges.{Models}
 use Rattle.gg_cut_plan.specs.Fault.{first_fault}
+<<<<<<< /tmp/cutm/m.antt
 use Rattle.gg_cut_plan.specs.Seated.{output_count}
+||||||| /tmp/cutm/base/crates/gg_build/proofs/PlanLemmas/GivenLemmas.antt
+use Rattle.gg_cut_plan.specs.Direct.{plan_hub, plan_routes}
+use Rattle.gg_cut_plan.specs.Listed.{listed_of}
+use Rattle.gg_cut_plan.specs.Seated.{output_count, plan_bridges, plan_wires}
+=======
+use Rattle.gg_cut_plan.specs.Direct.{plan_hub, plan_routes, plan_wires}
+use Rattle.gg_cut_plan.specs.Listed.{listed_of}
+use Rattle.gg_cut_plan.specs.Ports.{output_count, plan_bridges}
+>>>>>>> /tmp/cutm/two/crates/gg_build/proofs/PlanLemmas/GivenLemmas.antt
 use Rattle.gg_cut_plan.specs.Plan.{wire_at as link_at, IsPlan}
 use Rattle.gg_cut_plan.proofs.WholeFaultLemmas.{faultless-bridges, faultless-others}
 use Rattle.gg_cut_reference.specs.inside.Fitting.{AreFitting}

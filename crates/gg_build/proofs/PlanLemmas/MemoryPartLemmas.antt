@@ -21,7 +21,13 @@ use Rattle.gg_cut_plan.specs.declared.wires.Wire.{Wire as Link}
 use Rattle.gg_cut_plan.specs.Listed.{listed_of, first_place, unit_or_hub, memory_or, has_signal, owner_of, owner_of_instance}
 use Rattle.gg_cut_plan.specs.Machines.{first_memory, first_source, is_memory}
 use Rattle.gg_cut_plan.specs.Channels.{wire, flattened, reader_wires, writer_wires, wires_of}
+<<<<<<< /tmp/cutm/m.antt
 use Rattle.gg_cut_plan.specs.Direct.{is_driven, is_piped, plan_hub}
+||||||| /tmp/cutm/base/crates/gg_build/proofs/PlanLemmas/MemoryPartLemmas.antt
+use Rattle.gg_cut_plan.specs.Direct.{Hub, is_driven, is_piped, plan_hub, plan_routes}
+=======
+use Rattle.gg_cut_plan.specs.Direct.{Hub, is_piped, plan_hub, plan_routes}
+>>>>>>> /tmp/cutm/two/crates/gg_build/proofs/PlanLemmas/MemoryPartLemmas.antt
 use Rattle.gg_cut_plan.specs.Plan.{wire_at as link_at, channels_to, channels_from, signals_of, givens_of, IsInner, MakesBy, Takes, HasMemory, IsCutPart}
 use Rattle.gg_cut_plan.proofs.WireLemmas.{unit-below, unit_or_hub-below}
 use Rattle.gg_cut_split.specs.inside.Apart.{AreApart, AreFew}
@@ -72,7 +78,21 @@ module _ (design : Ordered) (request : Request) (m : ℕ) (part : Part) (is : Is
 
   -- the channels before the routing
   abbrev plain : List Link
+<<<<<<< /tmp/cutm/m.antt
   plain = wires_of circuit tree listed
+||||||| /tmp/cutm/base/crates/gg_build/proofs/PlanLemmas/MemoryPartLemmas.antt
+  plain = wires_of design.circuit design.tree (listed_of design.tree request)
+
+  -- the channels of the cut
+  abbrev links : List Link
+  links = plan_routes design.circuit design.tree request
+=======
+  plain = wires_of design.circuit design.tree (listed_of design.tree request) []
+
+  -- the channels of the cut
+  abbrev links : List Link
+  links = plan_routes design.circuit design.tree request
+>>>>>>> /tmp/cutm/two/crates/gg_build/proofs/PlanLemmas/MemoryPartLemmas.antt
 
   abbrev i : ℕ
   i = m - first_memory listed
@@ -81,7 +101,13 @@ module _ (design : Ordered) (request : Request) (m : ℕ) (part : Part) (is : Is
   own = (memory_at tree (value_at listed.memories i)).memory
 
   base : IsBase hub
+<<<<<<< /tmp/cutm/m.antt
   base = plan-base design listed (is_piped circuit request) (is_driven circuit request) request.direct is keeps apart
+||||||| /tmp/cutm/base/crates/gg_build/proofs/PlanLemmas/MemoryPartLemmas.antt
+  base = plan-base design listed (is_piped design.circuit request) (is_driven design.circuit request) request.direct is keeps apart
+=======
+  base = plan-base design listed (is_piped design.circuit request) request.bridges request.direct is keeps apart
+>>>>>>> /tmp/cutm/two/crates/gg_build/proofs/PlanLemmas/MemoryPartLemmas.antt
 
   -- it is a listed memory, and not the hub
   number-is-memory : is_memory listed m ≡ true
@@ -136,7 +162,7 @@ module _ (design : Ordered) (request : Request) (m : ℕ) (part : Part) (is : Is
   inner-low : (s : ℕ) → IsInner plain s → owner_of circuit tree listed s < first_memory listed
   inner-low s inner =
       let other = unit_or_hub (first_place (has_signal tree s) listed.units) in
-      let none = ap (memory_or (length listed.units) other) (no-field-place circuit tree listed s (inner-plain circuit tree listed keeps.fitting keeps.scoped apart s inner)) in
+      let none = ap (memory_or (length listed.units) other) (no-field-place circuit tree listed s (inner-plain circuit tree listed [] keeps.fitting keeps.scoped apart s inner)) in
       let below = unit-below (has_signal tree s) listed.units in
       omega (arith, none, below)
 
@@ -225,7 +251,7 @@ module _ (design : Ordered) (request : Request) (m : ℕ) (part : Part) (is : Is
         let rename = renamed_reader (in_whole part.globals part.clocks) in
         let inside : r < length (readers_at circuit own) = omega (arith, lt, ap length readers, length-map memory.readers rename) in
         let at : get_or (readers_at circuit own) r (rename any) ≡ rename (get_or memory.readers r any) = ap (λ (l : List Reader). get_or l r (rename any)) readers ∙ get_or-map rename memory.readers r any (rename any) lt in
-        in-fields circuit tree listed i w there
+        in-fields circuit tree listed [] i w there
         (Contains-append_left from_readers from_writers w
         (flattened-in (reader_wires outside (first_memory listed + i)) (readers_at circuit own) r (rename any) w inside
         (subst (λ (x : Reader). Contains (reader_wires outside (first_memory listed + i) x) w) (sym at) h)))
@@ -235,7 +261,7 @@ module _ (design : Ordered) (request : Request) (m : ℕ) (part : Part) (is : Is
         let rename = renamed_writer (in_whole part.globals part.clocks) in
         let inside : r < length (writers_at circuit own) = omega (arith, lt, ap length writers, length-map memory.writers rename) in
         let at : get_or (writers_at circuit own) r (rename any) ≡ rename (get_or memory.writers r any) = ap (λ (l : List Writer). get_or l r (rename any)) writers ∙ get_or-map rename memory.writers r any (rename any) lt in
-        in-fields circuit tree listed i w there
+        in-fields circuit tree listed [] i w there
         (Contains-append_right from_readers from_writers w
         (flattened-in (writer_wires outside (first_memory listed + i)) (writers_at circuit own) r (rename any) w inside
         (subst (λ (x : Writer). Contains (writer_wires outside (first_memory listed + i) x) w) (sym at) h)))
@@ -244,7 +270,7 @@ module _ (design : Ordered) (request : Request) (m : ℕ) (part : Part) (is : Is
     to-part : (s : ℕ) → s < length part.globals → Contains plain (wire (value_at part.globals s) outside (first_memory listed + i)) → Contains part.piece.ins s
     to-part s lt h =
         in-part s lt (subst (λ (l : List ℕ). Contains l (value_at part.globals s)) (sym (ins-still hub base m no-hub))
-        (subst (λ k. Takes plain k (value_at part.globals s)) number (takes circuit tree listed keeps.fitting keeps.scoped apart (value_at part.globals s) outside (first_memory listed + i) h)))
+        (subst (λ k. Takes plain k (value_at part.globals s)) number (takes circuit tree listed [] keeps.fitting keeps.scoped apart (value_at part.globals s) outside (first_memory listed + i) h)))
 
     looks : All (ReaderAmong part.piece.ins) memory.readers
     looks r any lt =
@@ -272,7 +298,7 @@ module _ (design : Ordered) (request : Request) (m : ℕ) (part : Part) (is : Is
     few : AreFew circuit tree request → length memory.readers + length memory.writers ≤ 16384
     few are =
         let channels = are.channels in
-        let ports = memory-few circuit tree listed (is_piped circuit request) (is_driven circuit request) request.direct base i there in
+        let ports = memory-few circuit tree listed (is_piped circuit request) request.bridges request.direct base i there in
         let reads : length (readers_at circuit own) ≡ length memory.readers = ap length readers ∙ length-map memory.readers (renamed_reader (in_whole part.globals part.clocks)) in
         let writes : length (writers_at circuit own) ≡ length memory.writers = ap length writers ∙ length-map memory.writers (renamed_writer (in_whole part.globals part.clocks)) in
         omega (arith, channels, ports, reads, writes)

@@ -14,9 +14,22 @@ use Rattle.gg_cut_plan.specs.declared.plan.Body.{Body}
 use Rattle.gg_cut_plan.specs.declared.plan.Body.TheVariants.{Cut, Memory, Source, Tray, Bridge}
 use Rattle.gg_cut_plan.specs.declared.wires.Wire.{Wire as Link}
 use Rattle.gg_cut_plan.specs.Channels.{wire}
+<<<<<<< /tmp/cutm/m.antt
 use Rattle.gg_cut_plan.specs.Seated.{Bridges, seated}
 use Rattle.gg_cut_plan.specs.Direct.{Hub, routes}
 use Rattle.gg_cut_plan.specs.Plan.{wire_at as link_at, channels_to, channels_from, signals_of, givens_of, IsCutPart}
+||||||| /tmp/cutm/base/crates/gg_build/proofs/PlanLemmas/NeedLemmas.antt
+use Rattle.gg_cut_plan.specs.Listed.{listed_of}
+use Rattle.gg_cut_plan.specs.Seated.{Bridges, plan_bridges, plan_wires, seated}
+use Rattle.gg_cut_plan.specs.Direct.{Hub, plan_hub, routes}
+use Rattle.gg_cut_plan.specs.Plan.{wire_at as link_at, channels_to, channels_from, signals_of, givens_of, IsCutPart, IsBody}
+=======
+use Rattle.gg_cut_plan.specs.Listed.{listed_of}
+use Rattle.gg_cut_plan.specs.Ports.{Bridges, plan_bridges}
+use Rattle.gg_cut_plan.specs.Seated.{seated}
+use Rattle.gg_cut_plan.specs.Direct.{Hub, plan_hub, routes, plan_wires}
+use Rattle.gg_cut_plan.specs.Plan.{wire_at as link_at, channels_to, channels_from, signals_of, givens_of, IsCutPart, IsBody}
+>>>>>>> /tmp/cutm/two/crates/gg_build/proofs/PlanLemmas/NeedLemmas.antt
 use Rattle.gg_cut_routes.specs.inside.Routes.{AreRoutes}
 use Rattle.gg_bridge.specs.Turned.{turned}
 use Rattle.gg_memunit.specs.MemoryUnit.{needs_of}

@@ -10,9 +10,25 @@ use Rattle.gg_cut_plan.specs.declared.listed.Listed.{Listed}
 use Rattle.gg_cut_plan.specs.declared.plan.Body.{Body}
 use Rattle.gg_cut_plan.specs.declared.plan.Body.TheVariants.{Cut, Memory, Source, Tray, Bridge}
 use Rattle.gg_cut_plan.specs.declared.wires.Wire.{Wire}
+<<<<<<< /tmp/cutm/m.antt
 use Rattle.gg_cut_plan.specs.Machines.{first_source}
 use Rattle.gg_cut_plan.specs.Direct.{Hub, routes}
 use Rattle.gg_cut_plan.specs.Seated.{plan_wires}
+||||||| /tmp/cutm/base/crates/gg_build/proofs/PlanLemmas/OutNeedLemmas.antt
+use Rattle.gg_cut_plan.specs.Machines.{first_memory, first_source}
+use Rattle.gg_cut_plan.specs.Listed.{listed_of}
+use Rattle.gg_cut_plan.specs.Fault.{first_fault}
+use Rattle.gg_cut_plan.specs.Bridges.{Models}
+use Rattle.gg_cut_plan.specs.Direct.{Hub, routes, plan_hub, plan_routes}
+use Rattle.gg_cut_plan.specs.Seated.{plan_bridges, plan_wires}
+=======
+use Rattle.gg_cut_plan.specs.Machines.{first_memory, first_source}
+use Rattle.gg_cut_plan.specs.Listed.{listed_of}
+use Rattle.gg_cut_plan.specs.Fault.{first_fault}
+use Rattle.gg_cut_plan.specs.Bridges.{Models}
+use Rattle.gg_cut_plan.specs.Direct.{Hub, routes, plan_hub, plan_routes, plan_wires}
+use Rattle.gg_cut_plan.specs.Ports.{plan_bridges}
+>>>>>>> /tmp/cutm/two/crates/gg_build/proofs/PlanLemmas/OutNeedLemmas.antt
 use Rattle.gg_cut_reference.proofs.FittingLemmas.LowLemmas.{wire-given}
 use Rattle.gg_bridge.specs.Turned.{turned}
 use Rattle.gg_cut_plan.specs.Plan.{wire_at, channels_to, channels_from, AreNeedsOf, IsCutPart, NeedsIn}

@@ -1,10 +1,19 @@
 -- The network of a plan: its channels are listed, it is wired, and it has no ring.
-use Rattle.std.proofs.Common.{ℕ, ◌<◌, ◌≤◌, List, length, map, sym, ◌∙◌, ap, subst, arith}
+use Rattle.std.proofs.Common.{ℕ, ◌<◌, ◌≤◌, List, [], length, map, sym, ◌∙◌, ap, subst, arith}
 use Rattle.std.specs.Prelude.{◌==◌}
 use Rattle.gg_flat.specs.Line.{value_at}
 use Rattle.gg_flat.specs.Run.{Start}
 use Rattle.gg_cut_plan.specs.declared.wires.Wire.{Wire as Link}
+<<<<<<< /tmp/cutm/m.antt
 use Rattle.gg_cut_plan.specs.Seated.{seated_wire}
+||||||| /tmp/cutm/base/crates/gg_build/proofs/PlanLemmas/PlanLemmas.antt
+use Rattle.gg_cut_plan.specs.Direct.{plan_hub, plan_routes}
+use Rattle.gg_cut_plan.specs.Seated.{plan_bridges, plan_wires, seated_wire}
+=======
+use Rattle.gg_cut_plan.specs.Direct.{plan_hub, plan_routes, plan_wires}
+use Rattle.gg_cut_plan.specs.Ports.{plan_bridges}
+use Rattle.gg_cut_plan.specs.Seated.{seated_wire}
+>>>>>>> /tmp/cutm/two/crates/gg_build/proofs/PlanLemmas/PlanLemmas.antt
 use Rattle.gg_flat.specs.Reads.{Reaches}
 use Rattle.std.proofs.lemmas.List.Elements.{All-map}
 use Rattle.gg_cut_plan.specs.Plan.{wire_at as link_at}
@@ -62,6 +71,18 @@ module _ (given : Given) (token : ℕ → ℕ) (starts : Body → Start) (machin
 
   pub plan-no-ring : HasNoRing (plan_frame token plan machines n)
   plan-no-ring =
+<<<<<<< /tmp/cutm/m.antt
       let ordered = can.design_is.ordered in
       let reached = All-map (λ (w : Link). Reaches design.circuit w.signal w.given) (seated_wire b) base (routes-reach hub design.order ordered (all-plain design.circuit design.tree listed)) in
       no-ring token plan wires (map kind_of machines) n design.circuit design.order ordered (are-links given) reached needs
+||||||| /tmp/cutm/base/crates/gg_build/proofs/PlanLemmas/PlanLemmas.antt
+      let base = plan_routes design.circuit design.tree request in
+      let ordered = given.can.design_is.ordered in
+      let reached = All-map (λ (w : Link). Reaches design.circuit w.signal w.given) (seated_wire (plan_bridges design.circuit design.tree request)) base (routes-reach (plan_hub design.circuit design.tree request) design.order ordered (all-plain design.circuit design.tree (listed_of design.tree request))) in
+      no-ring token plan (plan_wires design.circuit design.tree request) (map kind_of machines) n design.circuit design.order ordered links reached needs
+=======
+      let base = plan_routes design.circuit design.tree request in
+      let ordered = given.can.design_is.ordered in
+      let reached = All-map (λ (w : Link). Reaches design.circuit w.signal w.given) (seated_wire (plan_bridges design.circuit design.tree request)) base (routes-reach (plan_hub design.circuit design.tree request) design.order ordered (all-plain design.circuit design.tree (listed_of design.tree request) [])) in
+      no-ring token plan (plan_wires design.circuit design.tree request) (map kind_of machines) n design.circuit design.order ordered links reached needs
+>>>>>>> /tmp/cutm/two/crates/gg_build/proofs/PlanLemmas/PlanLemmas.antt

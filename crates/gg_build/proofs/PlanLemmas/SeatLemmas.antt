@@ -7,7 +7,7 @@ use Rattle.gg_flat.specs.Line.{value_at}
 use Rattle.gg_order.specs.Design.{Ordered}
 use Rattle.gg_partfile.specs.declared.request.Request.{Request}
 use Rattle.gg_cut_plan.specs.declared.wires.Wire.{Wire as Link}
-use Rattle.gg_cut_plan.specs.Direct.{plan_hub, plan_routes}
+use Rattle.gg_cut_plan.specs.Direct.{plan_hub, plan_routes, plan_wires}
 use Rattle.gg_cut_plan.specs.Listed.{listed_of}
 use Rattle.gg_cut_plan.specs.Machines.{first_source, first_tray}
 use Rattle.gg_cut_plan.specs.inside.Machines.{machine_count}
@@ -15,7 +15,7 @@ use Rattle.gg_cut_plan.specs.Plan.{channels_to, channels_from}
 use Rattle.gg_cut_plan.specs.inside.Ports.{AreBridges}
 use Rattle.gg_cut_plan.specs.inside.Seated.{IsKept}
 use Rattle.gg_cut_plan.specs.Ports.{Bridges, first_bridge, first_kept_tray, open_ins, output_count, plan_bridges, undriven, unseen}
-use Rattle.gg_cut_plan.specs.Seated.{plan_wires, seat_of, seated, seated_wire}
+use Rattle.gg_cut_plan.specs.Seated.{seat_of, seated, seated_wire}
 use Rattle.gg_bits.specs.Lists.{count_below, number_or}
 use Rattle.gg_cut_plan.proofs.PortLemmas.{are-bridges}
 use Rattle.gg_cut_plan.proofs.CountLemmas.{before-found, before-strict}

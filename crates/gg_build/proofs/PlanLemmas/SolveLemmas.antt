@@ -17,9 +17,19 @@ use Rattle.gg_cut_plan.specs.declared.plan.BridgeBody.{BridgeBody}
 use Rattle.gg_cut_plan.specs.declared.plan.Channel.{Channel}
 use Rattle.gg_cut_plan.specs.Channels.{wire}
 use Rattle.gg_cut_plan.specs.Machines.{first_source, first_tray}
+<<<<<<< /tmp/cutm/m.antt
 use Rattle.gg_cut_plan.specs.Direct.{is_piped}
 use Rattle.gg_cut_plan.specs.Plan.{wire_at as link_at, channels_to, channels_from}
 use Rattle.gg_cut_plan.specs.Seated.{first_kept_tray, open_outs, output_count, unseen}
+||||||| /tmp/cutm/base/crates/gg_build/proofs/PlanLemmas/SolveLemmas.antt
+use Rattle.gg_cut_plan.specs.Direct.{Hub, is_piped, plan_hub, plan_routes}
+use Rattle.gg_cut_plan.specs.Plan.{wire_at as link_at, channels_to, channels_from, IsBody, IsBridgeBody}
+use Rattle.gg_cut_plan.specs.Seated.{first_bridge, first_kept_tray, open_outs, output_count, plan_bridges, plan_wires, unseen}
+=======
+use Rattle.gg_cut_plan.specs.Direct.{Hub, is_piped, plan_hub, plan_routes, plan_wires}
+use Rattle.gg_cut_plan.specs.Plan.{wire_at as link_at, channels_to, channels_from, IsBody, IsBridgeBody}
+use Rattle.gg_cut_plan.specs.Ports.{first_bridge, first_kept_tray, open_outs, output_count, plan_bridges, unseen}
+>>>>>>> /tmp/cutm/two/crates/gg_build/proofs/PlanLemmas/SolveLemmas.antt
 use Rattle.gg_bits.specs.Lists.{count_below}
 use Rattle.gg_cut_plan.specs.inside.Solves.{AgreesFrom, Answers, GivesSaid, in_order, lists_of, Solves}
 use Rattle.gg_cut_plan.specs.Solves.{AreRows, columns_of, model_start, stream, streams}

@@ -21,9 +21,19 @@ use Rattle.gg_cut_plan.specs.declared.plan.Body.TheVariants.{Cut, Memory, Source
 use Rattle.gg_cut_plan.specs.declared.plan.Machine as planned
 use Rattle.gg_cut_plan.specs.declared.plan.Channel.{Channel}
 use Rattle.gg_cut_plan.specs.Machines.{first_source, first_tray}
+<<<<<<< /tmp/cutm/m.antt
 use Rattle.gg_cut_plan.specs.Direct.{is_piped}
 use Rattle.gg_cut_plan.specs.Seated.{first_bridge}
 use Rattle.gg_cut_plan.specs.Plan.{wire_at as link_at, channels_to, channels_from, signals_of, givens_of, IsCutPart}
+||||||| /tmp/cutm/base/crates/gg_build/proofs/PlanLemmas/SolvedLemmas.antt
+use Rattle.gg_cut_plan.specs.Direct.{Hub, is_piped, plan_hub, plan_routes}
+use Rattle.gg_cut_plan.specs.Seated.{first_bridge, open_ins, plan_bridges, plan_wires}
+use Rattle.gg_cut_plan.specs.Plan.{wire_at as link_at, channels_to, channels_from, signals_of, givens_of, IsCutPart, IsBody}
+=======
+use Rattle.gg_cut_plan.specs.Direct.{Hub, is_piped, plan_hub, plan_routes, plan_wires}
+use Rattle.gg_cut_plan.specs.Ports.{first_bridge, open_ins, plan_bridges}
+use Rattle.gg_cut_plan.specs.Plan.{wire_at as link_at, channels_to, channels_from, signals_of, givens_of, IsCutPart, IsBody}
+>>>>>>> /tmp/cutm/two/crates/gg_build/proofs/PlanLemmas/SolvedLemmas.antt
 use Rattle.gg_cut_plan.specs.Solves.{AreRows, columns_of, stream, streams}
 use Rattle.gg_cut_reference.specs.Links.{taken_as}
 use Rattle.gg_cut_reference.specs.Made.{plan_reference, plan_seen}

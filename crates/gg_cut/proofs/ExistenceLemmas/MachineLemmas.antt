@@ -17,7 +17,7 @@ use Rattle.gg_cut_plan.specs.declared.plan.Machine.{Machine}
 use Rattle.gg_cut_plan.specs.declared.wires.Wire.{Wire}
 use Rattle.gg_cut_plan.specs.Alike.{AreAlike}
 use Rattle.gg_cut_plan.specs.Bridges.{Models, bridge_faults}
-use Rattle.gg_cut_plan.specs.Direct.{Hub, is_piped, plan_hub}
+use Rattle.gg_cut_plan.specs.Direct.{Hub, is_piped, plan_hub, plan_wires}
 use Rattle.gg_cut_plan.specs.Fault.{IsSmall, first_fault}
 use Rattle.gg_cut_plan.specs.Held.{AreHeldOnce}
 use Rattle.gg_cut_plan.specs.Hosts.{host_of, leader}
@@ -25,7 +25,6 @@ use Rattle.gg_cut_plan.specs.Listed.{listed_of}
 use Rattle.gg_cut_plan.specs.Machines.{first_memory}
 use Rattle.gg_cut_plan.specs.Plan.{IsBody, channels_from, channels_to, entry_at, machine_names, port_place, wire_at}
 use Rattle.gg_cut_plan.specs.Ports.{Bridges, first_bridge, first_kept_tray, machine_end, plan_bridges, undriven, unseen}
-use Rattle.gg_cut_plan.specs.Seated.{plan_wires}
 use Rattle.gg_cut_split.specs.inside.Apart.{AreApart}
 use Rattle.gg_cut_split.proofs.ClosedLemmas.FaultlessLemmas.{faultless-apart, faultless-few}
 use Rattle.gg_cut_split.specs.inside.Again.{IsUnitAgain}

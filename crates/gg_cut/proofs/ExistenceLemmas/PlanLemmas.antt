@@ -17,12 +17,11 @@ use Rattle.gg_cut_plan.specs.declared.wires.Wire.{Wire}
 use Rattle.gg_cut_plan.specs.Bridges.{Models}
 use Rattle.gg_cut_plan.specs.Channels.{capacity_of, wire}
 use Rattle.gg_cut_plan.specs.Clocks.{ratios_of}
-use Rattle.gg_cut_plan.specs.Direct.{is_piped, plan_hub}
+use Rattle.gg_cut_plan.specs.Direct.{is_piped, plan_hub, plan_wires}
 use Rattle.gg_cut_plan.specs.Fault.{IsSmall, first_fault, first_fault_with}
 use Rattle.gg_cut_plan.specs.Held.{AreHeldOnce}
 use Rattle.gg_cut_plan.specs.Listed.{listed_of}
 use Rattle.gg_cut_plan.specs.Plan.{IsPlan, wire_at}
-use Rattle.gg_cut_plan.specs.Seated.{plan_wires}
 use Rattle.gg_cut_plan.proofs.WholeFaultLemmas.{faultless-bridges, faultless-others}
 use Rattle.gg_cut_routes.specs.inside.Routes.{AreRoutes}
 use Rattle.gg_cut_routes.proofs.RoutedLemmas.{plan-routed}

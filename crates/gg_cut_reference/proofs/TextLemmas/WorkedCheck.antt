@@ -9,7 +9,7 @@ use Rattle.gg_flat.specs.Circuit.{driver_at}
 use Rattle.gg_flat.specs.Reads.{NamesSignal}
 use Rattle.gg_order.specs.Design.{Ordered}
 use Rattle.gg_cut_plan.specs.Channels.{wires_of}
-use Rattle.gg_cut_plan.specs.Seated.{plan_wires}
+use Rattle.gg_cut_plan.specs.Direct.{plan_wires}
 use Rattle.gg_cut_plan.specs.Plan.{channels_to, signals_of}
 use Rattle.gg_cut_plan.specs.declared.wires.Wire.{Wire}
 use Rattle.gg_cut_plan.proofs.WorkedPair.{circuit, tree, listed, both_units, direct_units, piped_units}

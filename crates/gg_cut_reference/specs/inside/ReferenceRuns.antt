@@ -1,7 +1,7 @@
 -- What a run of the reference circuit of a cut is to the machines and the channels of the cut. It may start anywhere, and the
 -- clocks may have any ratios.
 -- Source: MEMOCODE 2009 (a node of the network computes what its part of the design computes; tokens on the channels).
-use Rattle.std.specs.Prelude.{◌≡◌, ℕ, ◌+◌, ◌<◌, ◌≤◌, List, [], Bool, Contains, length, slice_index_or}
+use Rattle.std.specs.Prelude.{◌≡◌, ℕ, ◌<◌, ◌≤◌, List, [], Bool, None, Contains, length, slice_index_or}
 use Rattle.gg_flat.specs.Line.{value_at}
 use Rattle.gg_flat.specs.Run.{IsColumns, Start, column}
 use Rattle.gg_flat.specs.State.{IsState}
@@ -10,7 +10,7 @@ use Rattle.gg_part.specs.KeepsToTree.{KeepsToTree}
 use Rattle.gg_order.specs.Design.{Ordered, IsDesign}
 use Rattle.gg_partfile.specs.declared.request.BridgeEntry.{BridgeEntry}
 use Rattle.gg_cut_plan.specs.declared.listed.Listed.{Listed}
-use Rattle.gg_cut_plan.specs.Machines.{first_source}
+use Rattle.gg_cut_plan.specs.Ports.{giver_of, ports_of}
 use Rattle.gg_cut_plan.specs.Held.{AreHeldOnce}
 use Rattle.gg_cut_plan.specs.Plan.{wire_at, channels_from, IsCutPart}
 use Rattle.gg_cut_plan.specs.Direct.{Hub, hub_of, routes}
@@ -65,9 +65,9 @@ SourcesFollow =
     → IsColumns (reference_circuit design.circuit design.tree listed piped entries direct) end columns
     → IsState (reference_circuit design.circuit design.tree listed piped entries direct) start.state
     → AreRows (reference_circuit design.circuit design.tree listed piped entries direct) start columns end rows
-    -- The source of the top input at place p gives the channel.
-    → p < length design.circuit.ins
-    → Contains (channels_from (routes (hub_of design.circuit design.tree listed piped entries direct)) (first_source listed + p)) c
+    -- No bridge drives the top input at place p, and the input's source gives the channel.
+    → p < length design.circuit.ins → (ports_of design.circuit design.tree listed entries).driver p ≡ None
+    → Contains (channels_from (routes (hub_of design.circuit design.tree listed piped entries direct)) (giver_of (ports_of design.circuit design.tree listed entries) p)) c
     -- In each cycle of the run it is given the input's value.
     → (t : ℕ) → start.cycle ≤ t → t < end
     → value_at (given_column (hub_of design.circuit design.tree listed piped entries direct) rows c) t ≡ value_at (slice_index_or columns p []) t

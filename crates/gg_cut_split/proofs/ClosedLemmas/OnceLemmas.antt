@@ -181,7 +181,7 @@ module _ (circuit : FlatCircuit) (tree : InstanceTree) (listed : Listed) (fits :
       port-no-field circuit tree fits scoped k (value_at listed.memories at.place) s (apart.memories at.place 0 at.within) port (at.holds 0)
 
   -- the out-signals are distinct
-  outs-once : AllPairs (λ a b. a ≢ b) circuit.outs
+  pub outs-once : AllPairs (λ a b. a ≢ b) circuit.outs
   outs-once =
       subst (AllPairs (λ a b. a ≢ b)) scoped.outs
       (AllPairs-append (λ a b. a ≢ b) (output_signals (instance_at tree 0).ports) (stop_signals tree) (tops-once (λ port. not port.is_input)) scoped.stops_once

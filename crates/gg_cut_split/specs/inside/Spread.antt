@@ -25,13 +25,13 @@ pub record IsPut (test : ℕ → Bool) (number : ℕ) (old new : List (List ℕ)
 
 -- ---- channels
 
--- the channel of a top input from a machine to the hub, machine 0
-abbrev pub source_wires : ℕ → ℕ → List Wire
-source_wires number signal = wire signal number 0 ∷ []
+-- the channel of a top input, from the machine that a table has for it to the hub, machine 0
+abbrev pub given_wires : List ℕ → ℕ → ℕ → List Wire
+given_wires givers place signal = wire signal (value_at givers place) 0 ∷ []
 
--- the channel of a top output, from the machine that a table has for it
-abbrev pub held_wires : List ℕ → ℕ → ℕ → List Wire
-held_wires holders number signal = wire signal (value_at holders signal) number ∷ []
+-- the channel of an out-signal of the top, from the machine that one table has for the signal to the machine that another has for its place
+abbrev pub held_wires : (holders keepers : List ℕ) → ℕ → ℕ → List Wire
+held_wires holders keepers place signal = wire signal (value_at holders signal) (value_at keepers place) ∷ []
 
 -- ---- signals
 
