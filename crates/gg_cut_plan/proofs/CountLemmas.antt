@@ -51,6 +51,11 @@ pub before-front : (keeps : ℕ → Bool) (n : ℕ) → count_below keeps (suc n
 before-front keeps zero = omega arith
 before-front keeps (suc n) = let rest = before-front keeps n in omega (arith, rest)
 
+-- no more than there are
+pub before-few : (keeps : ℕ → Bool) (n : ℕ) → count_below keeps n ≤ n
+before-few keeps zero = omega arith
+before-few keeps (suc n) = let rest = before-few keeps n in let one = one-or-none (keeps n) in omega (arith, rest, one)
+
 -- tests that agree below n keep as many numbers below n
 pub before-same : (f g : ℕ → Bool) (n : ℕ) → ((p : ℕ) → p < n → f p ≡ g p) → count_below f n ≡ count_below g n
 before-same f g zero same = refl

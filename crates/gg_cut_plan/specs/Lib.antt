@@ -9,7 +9,6 @@ pub mod Alike
 pub mod Direct
 pub mod Models
 pub mod Bridges
-pub mod Seated
 pub mod Plan
 pub mod Solves
 pub mod Held

@@ -8,5 +8,4 @@ pub mod Listed
 pub mod Machines
 pub mod Plan
 pub mod Ports
-pub mod Seated
 pub mod Solves

@@ -17,26 +17,8 @@ use Rattle.gg_cut_plan.specs.declared.plan.Channel.{Channel}
 use Rattle.gg_cut_plan.specs.declared.plan.Plan.{Plan}
 use Rattle.gg_cut_plan.specs.Machines.{first_memory, first_source}
 use Rattle.gg_cut_plan.specs.Bridges.{Models}
-<<<<<<< /tmp/cutm/m.antt
-use Rattle.gg_cut_plan.specs.Seated.{machine_end}
+use Rattle.gg_cut_plan.specs.Ports.{machine_end}
 use Rattle.gg_cut_plan.specs.Plan.{wire_at, channels_to, channels_from}
-||||||| /tmp/cutm/base/crates/gg_build/proofs/PlanLemmas/LayoutLemmas.antt
-use Rattle.gg_cut_plan.specs.Fault.{first_fault}
-use Rattle.gg_cut_plan.specs.Direct.{Hub, plan_hub}
-use Rattle.gg_cut_plan.specs.Seated.{machine_end, plan_bridges, plan_wires}
-use Rattle.gg_cut_plan.specs.Plan.{wire_at, channels_to, channels_from, IsBody}
-use Rattle.gg_cut_split.specs.inside.Apart.{AreApart, AreFew}
-use Rattle.gg_cut_split.proofs.ClosedLemmas.FaultlessLemmas.{faultless-apart, faultless-few}
-use Rattle.gg_cut_routes.specs.inside.Routes.{AreRoutes}
-=======
-use Rattle.gg_cut_plan.specs.Fault.{first_fault}
-use Rattle.gg_cut_plan.specs.Direct.{Hub, plan_hub, plan_wires}
-use Rattle.gg_cut_plan.specs.Ports.{machine_end, plan_bridges}
-use Rattle.gg_cut_plan.specs.Plan.{wire_at, channels_to, channels_from, IsBody}
-use Rattle.gg_cut_split.specs.inside.Apart.{AreApart, AreFew}
-use Rattle.gg_cut_split.proofs.ClosedLemmas.FaultlessLemmas.{faultless-apart, faultless-few}
-use Rattle.gg_cut_routes.specs.inside.Routes.{AreRoutes}
->>>>>>> /tmp/cutm/two/crates/gg_build/proofs/PlanLemmas/LayoutLemmas.antt
 use Rattle.gg_cut_reference.specs.text.CheckText.{AreChannelNeeds}
 use Rattle.gg_cut_reference.proofs.TextLemmas.PlanLemmas.{channel-needs}
 use Rattle.gg_node.specs.Machine.{Machine, Port, machine_at, needs_at}

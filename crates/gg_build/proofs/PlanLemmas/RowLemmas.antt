@@ -17,28 +17,10 @@ use Rattle.gg_cut_plan.specs.declared.plan.Body.{Body}
 use Rattle.gg_cut_plan.specs.declared.plan.Body.TheVariants.{Cut, Memory, Source, Tray, Bridge}
 use Rattle.gg_cut_plan.specs.declared.plan.Channel.{Channel}
 use Rattle.gg_cut_plan.specs.declared.plan.Machine as planned
-<<<<<<< /tmp/cutm/m.antt
 use Rattle.gg_cut_plan.specs.Bridges.{model_of}
 use Rattle.gg_cut_plan.specs.Listed.{first_place}
 use Rattle.gg_cut_plan.specs.Plan.{entry_at}
-use Rattle.gg_cut_plan.specs.Seated.{first_bridge}
-||||||| /tmp/cutm/base/crates/gg_build/proofs/PlanLemmas/RowLemmas.antt
-use Rattle.gg_cut_plan.specs.declared.plan.Plan.{Plan}
-use Rattle.gg_cut_plan.specs.Bridges.{Models, model_of}
-use Rattle.gg_cut_plan.specs.Direct.{Hub, plan_hub}
-use Rattle.gg_cut_plan.specs.Held.{AreHeldOnce}
-use Rattle.gg_cut_plan.specs.Listed.{first_place, listed_of}
-use Rattle.gg_cut_plan.specs.Plan.{entry_at, IsBody, IsPlan}
-use Rattle.gg_cut_plan.specs.Seated.{Bridges, first_bridge, plan_bridges}
-=======
-use Rattle.gg_cut_plan.specs.declared.plan.Plan.{Plan}
-use Rattle.gg_cut_plan.specs.Bridges.{Models, model_of}
-use Rattle.gg_cut_plan.specs.Direct.{Hub, plan_hub}
-use Rattle.gg_cut_plan.specs.Held.{AreHeldOnce}
-use Rattle.gg_cut_plan.specs.Listed.{first_place, listed_of}
-use Rattle.gg_cut_plan.specs.Plan.{entry_at, IsBody, IsPlan}
-use Rattle.gg_cut_plan.specs.Ports.{Bridges, first_bridge, plan_bridges}
->>>>>>> /tmp/cutm/two/crates/gg_build/proofs/PlanLemmas/RowLemmas.antt
+use Rattle.gg_cut_plan.specs.Ports.{first_bridge}
 use Rattle.gg_cut_plan.proofs.PathLemmas.{first_place-Some}
 use Rattle.gg_cut_reference.proofs.FittingLemmas.OpenLemmas.{ins-count}
 use Rattle.gg_cut_reference.specs.Links.{pipes_of, taken_as}

@@ -15,10 +15,10 @@ use Rattle.gg_cut_plan.proofs.DirectLemmas.{direct-is}
 use Rattle.gg_cut_routes.proofs.RouteLemmas.{number-is, IsBase, giver-is, own-no-wire, Routing, Plain, Direct, routing, route-signal, plain-given, plain-producer, direct-producer, IsRoute, out-routes}
 use Rattle.gg_build.proofs.PlanLemmas.ListedLemmas.{IsGivenBy, given-is}
 
-module _ (hub : Hub) (base : IsBase hub) (m : ℕ) (memory : hub.memory m ≡ true) (other : m ≢ 0) where
+module _ (hub : Hub) (base : IsBase hub) (m : ℕ) (silent : hub.silent m ≡ true) (other : m ≢ 0) where
   -- what the memory gives is no origin of a direct channel
-  no-origin : (w : Link) (x : ℕ) → Contains hub.base w → w.producer ≡ m → w.signal ≡ x → hub.memory (giver hub x) ≡ false → ⊥
-  no-origin w x h from is plain = clash (hub.memory m) memory (ap hub.memory (sym (ap (giver hub) (sym is) ∙ giver-is hub base w h ∙ from)) ∙ plain)
+  no-origin : (w : Link) (x : ℕ) → Contains hub.base w → w.producer ≡ m → w.signal ≡ x → hub.silent (giver hub x) ≡ false → ⊥
+  no-origin w x h from is plain = clash (hub.silent m) silent (ap hub.silent (sym (ap (giver hub) (sym is) ∙ giver-is hub base w h ∙ from)) ∙ plain)
 
   -- so a channel that it gives isn't gone
   stays : (w : Link) → Contains hub.base w → w.producer ≡ m → is_gone hub w.signal ≡ false

@@ -13,15 +13,8 @@ use Rattle.gg_part.specs.declared.part.Part.{Part}
 use Rattle.gg_cut_plan.specs.declared.plan.Body.{Body}
 use Rattle.gg_cut_plan.specs.declared.plan.Body.TheVariants.{Cut, Memory as Listing, Source, Tray, Bridge}
 use Rattle.gg_cut_plan.specs.Machines.{first_source}
-<<<<<<< ours
 use Rattle.gg_cut_plan.specs.Plan.{wire_at as link_at}
 use Rattle.gg_cut_split.proofs.ClosedLemmas.FaultlessLemmas.{range-free, capacity-is}
-=======
-use Rattle.gg_cut_plan.specs.Direct.{Hub, plan_hub, plan_wires}
-use Rattle.gg_cut_plan.specs.Plan.{wire_at as link_at, IsBody}
-use Rattle.gg_cut_split.proofs.ClosedLemmas.FaultlessLemmas.{faultless-apart, faultless-few, range-free, capacity-is}
-use Rattle.gg_cut_routes.specs.inside.Routes.{AreRoutes}
->>>>>>> theirs
 use Rattle.gg_memunit.specs.inside.MemoryUnit.{count_by}
 use Rattle.gg_memunit.specs.MemoryUnit.{ports_of}
 use Rattle.gg_memunit.proofs.PortLemmas.{count_ports}

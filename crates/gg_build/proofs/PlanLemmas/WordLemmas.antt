@@ -122,7 +122,7 @@ module _ (m outside : ℕ) where
 
 -- ---- a listed memory
 
-module _ (circuit : FlatCircuit) (tree : InstanceTree) (listed : Listed) (m i : ℕ) (lt : i < length listed.memories) (is : first_memory listed + i ≡ m) (apart : (k : ℕ) → k < length circuit.outs → owner_of circuit tree listed (value_at circuit.outs k) ≢ m) where
+module _ (circuit : FlatCircuit) (tree : InstanceTree) (listed : Listed) (entries : List BridgeEntry) (m i : ℕ) (lt : i < length listed.memories) (is : first_memory listed + i ≡ m) (apart : (k : ℕ) → k < length circuit.outs → owner_of circuit tree listed (value_at circuit.outs k) ≢ m) where
   abbrev own : ℕ
   own = (memory_at tree (value_at listed.memories i)).memory
 
@@ -130,7 +130,7 @@ module _ (circuit : FlatCircuit) (tree : InstanceTree) (listed : Listed) (m i : 
   below k same = let low = unit_or_hub-below tree listed.units k in omega (arith, low, same, is)
 
   abbrev sources : List Link
-  sources = numbered (input_wires (ports_of circuit tree listed [])) 0 circuit.ins
+  sources = numbered (input_wires (ports_of circuit tree listed entries)) 0 circuit.ins
 
   abbrev ports : List Link
   ports = numbered (port_wires tree listed.units) 1 listed.units
@@ -139,7 +139,7 @@ module _ (circuit : FlatCircuit) (tree : InstanceTree) (listed : Listed) (m i : 
   fields = numbered (field_wires circuit tree listed.units) (first_memory listed) listed.memories
 
   abbrev trays : List Link
-  trays = numbered (output_wires circuit tree listed (ports_of circuit tree listed [])) 0 circuit.outs
+  trays = numbered (output_wires circuit tree listed (ports_of circuit tree listed entries)) 0 circuit.outs
 
   abbrev gives : Link → Bool
   gives w = w.producer == m
@@ -147,15 +147,15 @@ module _ (circuit : FlatCircuit) (tree : InstanceTree) (listed : Listed) (m i : 
   no-source : filter gives sources ≡ []
   no-source =
       filter-none gives sources
-      (Each-numbered (λ w. gives w ≡ false) (input_wires (ports_of circuit tree listed [])) 0 circuit.ins
-      (λ k s le high. (ne_eqb (giver_of (ports_of circuit tree listed []) k) m (λ same. let low = giver-low (ports_of circuit tree listed []) k in omega (arith, same, low, is, lt)), tt)))
+      (Each-numbered (λ w. gives w ≡ false) (input_wires (ports_of circuit tree listed entries)) 0 circuit.ins
+      (λ k s le high. (ne_eqb (giver_of (ports_of circuit tree listed entries) k) m (λ same. let low = giver-low (ports_of circuit tree listed entries) k in omega (arith, same, low, is, lt)), tt)))
 
   no-port : filter gives ports ≡ []
   no-port =
       filter-none gives ports (Each-numbered (λ w. gives w ≡ false) (port_wires tree listed.units) 1 listed.units (λ k unit le high.
       port-other m (owner_of_instance tree listed.units (parent_place (instance_at tree unit).parent)) (below (parent_place (instance_at tree unit).parent)) k (λ same. omega (arith, same, high, is)) (instance_at tree unit).ports))
 
-  each-tray : (k : ℕ) (outs : List ℕ) → ((i : ℕ) → i < length outs → owner_of circuit tree listed (value_at outs i) ≢ m) → Each (λ w. gives w ≡ false) (numbered (output_wires circuit tree listed (ports_of circuit tree listed [])) k outs)
+  each-tray : (k : ℕ) (outs : List ℕ) → ((i : ℕ) → i < length outs → owner_of circuit tree listed (value_at outs i) ≢ m) → Each (λ w. gives w ≡ false) (numbered (output_wires circuit tree listed (ports_of circuit tree listed entries)) k outs)
   each-tray k [] other = tt
   each-tray k (s ∷ outs) other = (ne_eqb (owner_of circuit tree listed s) m (other 0 (omega arith)), each-tray (suc k) outs (λ i lt. other (suc i) (omega (arith, lt))))
 
@@ -184,10 +184,10 @@ module _ (circuit : FlatCircuit) (tree : InstanceTree) (listed : Listed) (m i : 
       ∙ readers-give m outer inside (readers_at circuit own)
 
   -- the signals of the channels that the memory gives are the data of its readers
-  pub memory-gives : signals_of (wires_of circuit tree listed []) (channels_from (wires_of circuit tree listed []) m) ≡ map (λ (reader : Reader). reader.word) (readers_at circuit own)
+  pub memory-gives : signals_of (wires_of circuit tree listed entries) (channels_from (wires_of circuit tree listed entries) m) ≡ map (λ (reader : Reader). reader.word) (readers_at circuit own)
   memory-gives =
       let words = map (λ (reader : Reader). wire reader.word m outer) (readers_at circuit own) in
-      signals-from (wires_of circuit tree listed []) m
+      signals-from (wires_of circuit tree listed entries) m
       ∙ ap (map (λ (w : Link). w.signal))
       (filter-append gives sources (ports ++ (fields ++ trays))
       ∙ ap₂ (λ (xs ys : List Link). xs ++ ys) no-source
@@ -213,10 +213,10 @@ memory-few circuit tree listed piped entries direct base i lt =
     let to : Link → Bool = λ w. w.consumer == m in
     let from_readers = flattened (reader_wires outside m) (readers_at circuit own) in
     let from_writers = flattened (writer_wires outside m) (writers_at circuit own) in
-    let sources = numbered (input_wires (ports_of circuit tree listed [])) 0 circuit.ins in
+    let sources = numbered (input_wires (ports_of circuit tree listed entries)) 0 circuit.ins in
     let ports = numbered (port_wires tree listed.units) 1 listed.units in
     let fields = numbered (field_wires circuit tree listed.units) (first_memory listed) listed.memories in
-    let trays = numbered (output_wires circuit tree listed (ports_of circuit tree listed [])) 0 circuit.outs in
+    let trays = numbered (output_wires circuit tree listed (ports_of circuit tree listed entries)) 0 circuit.outs in
     let taken : length (channels_to (routes hub) m) ≡ length (filter to (sources ++ (ports ++ (fields ++ trays)))) =
     sym (length-map (channels_to (routes hub) m) (λ c. (wire_at (routes hub) c).signal))
     ∙ ap length (ins-still hub base m (λ same. omega (arith, same)) ∙ signals-to hub.base m)

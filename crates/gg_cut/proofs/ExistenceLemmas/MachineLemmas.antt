@@ -42,7 +42,7 @@ use Rattle.gg_cut.proofs.AlikeLemmas.{machines-made, machines-more, machines-non
 use Rattle.gg_cut.proofs.BodyLemmas.{bridge-made, source-made, tray-made}
 use Rattle.gg_cut_machines.proofs.HostLemmas.{leader-below}
 use Rattle.gg_cut_machines.proofs.LeaderLemmas.{leaders-first}
-use Rattle.gg_cut_machines.proofs.SeatLemmas.{before-few}
+use Rattle.gg_cut_plan.proofs.CountLemmas.{before-few}
 use Rattle.gg_cut_parts.proofs.RoutedLemmas.{plan-unit-routed}
 use Rattle.gg_cut.proofs.ExistenceLemmas.BodyLemmas.{HasCutPart, like-part, part-for}
 use Rattle.gg_cut.proofs.ExistenceLemmas.ClockLemmas.{unit-clocks}
@@ -70,7 +70,7 @@ module _ (design : Ordered) (request : Request) (models : Models) (is : IsDesign
   apart : AreApart design.tree listed
   apart = faultless-apart design request none keeps.fitting
 
-  routed : AreRoutes design listed hub
+  routed : AreRoutes design listed request.bridges hub
   routed = plan-routed design request is keeps none
 
   -- a request without a fault asks for few machines
