@@ -23,14 +23,6 @@ memory_after units = suc units
 abbrev pub source_after : (units memories : ℕ) → ℕ
 source_after units memories = memory_after units + memories
 
--- the first tray, after the sources
-abbrev pub tray_after : (units memories sources : ℕ) → ℕ
-tray_after units memories sources = source_after units memories + sources
-
--- the first bridge, after the trays
-abbrev pub bridge_after : (units memories sources trays : ℕ) → ℕ
-bridge_after units memories sources trays = tray_after units memories sources + trays
-
 -- ---- in a cut
 
 -- the first listed memory of a cut

@@ -1,8 +1,8 @@
 //! `Numbering`: the numbers of a cut's machines.
 ghost use Rattle.std.specs.Prelude.{◌≡◌, ◌+◌, ◌-◌, ◌<◌, ◌^◌, Some, None, length, if◌then◌else◌};
 ghost use Rattle.gg_flat.specs.Line.{value_at};
-ghost use Rattle.gg_cut_plan.specs.Machines.{unit_number, memory_after, source_after, tray_after, bridge_after, first_memory, is_memory};
-ghost use Rattle.gg_cut_plan.specs.inside.Machines.{count_end, end_after, silent_by, IsRole};
+ghost use Rattle.gg_cut_plan.specs.Machines.{unit_number, memory_after, source_after, first_memory, is_memory};
+ghost use Rattle.gg_cut_plan.specs.inside.Machines.{bridge_after, count_end, end_after, silent_by, tray_after, IsRole};
 
 use crate::listed::Listed;
 use std::marker::Model;

@@ -4,9 +4,17 @@
 use Rattle.std.specs.Prelude.{◌≡◌, ◌<◌, ℕ, ◌+◌, Bool, ◌&&◌, ◌||◌, nat_le, nat_lt}
 use Rattle.gg_cut_plan.specs.declared.numbering.Role.{Role}
 use Rattle.gg_cut_plan.specs.declared.numbering.Role.TheVariants.{Hub, Unit, Memory, Source, Tray, Bridge}
-use Rattle.gg_cut_plan.specs.Machines.{memory_after, source_after, tray_after, bridge_after, unit_number}
+use Rattle.gg_cut_plan.specs.Machines.{memory_after, source_after, unit_number}
 
--- ---- the number after all machines
+-- ---- the first number of each later kind, and the number after all machines
+
+-- the first tray, after the sources
+abbrev pub tray_after : (units memories sources : ℕ) → ℕ
+tray_after units memories sources = source_after units memories + sources
+
+-- the first bridge, after the trays
+abbrev pub bridge_after : (units memories sources trays : ℕ) → ℕ
+bridge_after units memories sources trays = tray_after units memories sources + trays
 
 -- the number of all machines
 abbrev pub end_after : (units memories sources trays bridges : ℕ) → ℕ
