@@ -1,5 +1,5 @@
 -- A bridge at the ports of a circuit: the machines' numbers, names and channels, and the faults of bridges, worked by hand.
-use Rattle.std.proofs.Common.{◌≡◌, ℕ, List, [], ◌∷◌, Option, Some, None, refl, arith}
+use Rattle.std.proofs.Common.{◌≡◌, ℕ, List, [], ◌∷◌, Option, Some, None, refl, arith, true}
 use Rattle.std.specs.Prelude.{codes, map, option_map}
 use Rattle.gg_bits.specs.declared.types.Ty.{Ty}
 use Rattle.gg_flat.specs.declared.piece.Driver.TheVariants.{Input, Held}
