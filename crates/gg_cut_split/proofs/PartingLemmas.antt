@@ -1,5 +1,5 @@
 -- What the steps of the split ask for and give, from what is read.
-use Rattle.std.proofs.Common.{◌≡◌, ℕ, ◌<◌, ◌≤◌, ◌^◌, List, [], length, map, get_or, sym, ◌∙◌, ap, ap₂, subst, arith}
+use Rattle.std.proofs.Common.{◌≡◌, ℕ, ◌<◌, ◌≤◌, ◌^◌, List, [], length, map, get_or, refl, sym, ◌∙◌, ap, ap₂, subst, arith}
 use Rattle.std.specs.Prelude.{Option, slice_index_or, Contains, All}
 use Rattle.std.proofs.lemmas.List.{get_or_default, length-map}
 use Rattle.std.proofs.lemmas.List.Elements.{All-map, Contains-get_or}
@@ -145,7 +145,7 @@ can-split design circuit tree order listed entries is fits along ready keeps apa
       few = (let least = wires-few design listed entries ready keeps apart in omega (arith, least, few));
     })))
 
-pub shares-of : (design : Ordered) (circuit : FlatCircuit) (tree : InstanceTree) (order : List ℕ) (listed : Listed) (entries : List BridgeEntry) (shares : List Share) → circuit ≡ design.circuit → tree ≡ design.tree → order ≡ design.order → AreShares (record { circuit = circuit; tree = tree; order = order }) listed entries shares → AreShares design listed shares
+pub shares-of : (design : Ordered) (circuit : FlatCircuit) (tree : InstanceTree) (order : List ℕ) (listed : Listed) (entries : List BridgeEntry) (shares : List Share) → circuit ≡ design.circuit → tree ≡ design.tree → order ≡ design.order → AreShares (record { circuit = circuit; tree = tree; order = order }) listed entries shares → AreShares design listed entries shares
 shares-of design circuit tree order listed entries shares is fits along are =
     subst (λ o. AreShares (record { circuit = design.circuit; tree = design.tree; order = o }) listed entries shares) along
     (subst (λ t. AreShares (record { circuit = design.circuit; tree = t; order = order }) listed entries shares) fits (subst (λ k. AreShares (record { circuit = k; tree = tree; order = order }) listed entries shares) is are))

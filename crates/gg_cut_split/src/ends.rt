@@ -179,7 +179,6 @@ fn numbers_by(
 ) -> Result<Vec<u32>, AllocError>
     requires own { own < 2 ^ 32 }
     requires bridge { bridge < 2 ^ 32 }
-    requires few { length takers.now < 2 ^ 32 }
     requires within { (p : ℕ) → p < length takers.now → number_by own bridge takers.now p < 2 ^ 32 }
     ensures { IfOk result (λ numbers. numbers.items ≡ map (number_by own bridge takers.now) (range_with_len 0 (length takers.now))) }
 {

@@ -87,7 +87,7 @@ module _ (design : Ordered) (listed : Listed) (is : IsDesign design) (keeps : Ke
       shared design.circuit design.tree design.order listed [] is.formed keeps.fitting keeps.scoped is.ordered apart m (channels_to wires m) (channels_from wires m) (signals_for m) (memories_for m)
       refl refl (signals-for m) (memories-for m)
 
-  module _ (piped : ℕ → Bool) (entries : List BridgeEntry) (direct : Bool) (are : AreRoutes design listed (hub_of design.circuit design.tree listed piped entries direct)) where
+  module _ (piped : ℕ → Bool) (entries : List BridgeEntry) (direct : Bool) (are : AreRoutes design listed entries (hub_of design.circuit design.tree listed piped entries direct)) where
     abbrev hub : Hub
     hub = hub_of design.circuit design.tree listed piped entries direct
 
@@ -115,6 +115,6 @@ module _ (design : Ordered) (listed : Listed) (is : IsDesign design) (keeps : Ke
               is = other-plan-share design listed piped entries direct is keeps apart are m (channels_to wires m) (channels_from wires m) (signals_for m) (memories_for m) some (share-of m);
             }
 
-pub plan-share : (design : Ordered) (listed : Listed) (piped : ℕ → Bool) (entries : List BridgeEntry) (direct : Bool) → IsDesign design → KeepsToTree design.circuit design.tree → AreApart design.tree listed → AreRoutes design listed (hub_of design.circuit design.tree listed piped entries direct)
+pub plan-share : (design : Ordered) (listed : Listed) (piped : ℕ → Bool) (entries : List BridgeEntry) (direct : Bool) → IsDesign design → KeepsToTree design.circuit design.tree → AreApart design.tree listed → AreRoutes design listed entries (hub_of design.circuit design.tree listed piped entries direct)
     → (m : ℕ) → HasShare design listed (hub_of design.circuit design.tree listed piped entries direct) m
 plan-share design listed piped entries direct is keeps apart are m = share-there design listed is keeps apart piped entries direct are m

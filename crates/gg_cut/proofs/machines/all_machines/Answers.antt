@@ -5,7 +5,7 @@ use Rattle.gg_flat.specs.Line.{value_at}
 use Rattle.gg_cut_plan.specs.declared.plan.Machine.{Machine}
 use Rattle.gg_cut_parts.specs.inside.Draft.{draft_hub}
 use Rattle.gg_cut_machines.specs.inside.Drafted.{draft_end}
-use Rattle.gg_cut_machines.proofs.PortLemmas.{zeros}
+use Rattle.gg_cut_split.proofs.TakerLemmas.{zeros}
 use Rattle.gg_cut.specs.inside.Drafted.{AreEarlier, IsNextBody}
 use Rattle.gg_cut.proofs.AlikeLemmas.{machine-placed, machines-none, machines-more, machines-made}
 use Rattle.gg_cut.proofs.RoleLemmas.{end-few, end-is}

@@ -13,5 +13,5 @@ loop-place-preserved c =
     let number : c.number_at.result ≡ number_by c.args.own c.args.bridge takers n =
     c.number_at.ensures ∙ ap (λ x. if value_at takers n == 0 then x else c.args.bridge + (value_at takers n - 1)) c.loop-place.invariant.1 in (
       push-more c.loop-place.numbers.items c.push.new.self.items (number_by c.args.own c.args.bridge takers) n c.number_at.result c.loop-place.invariant.0 c.in_ok-push.ensures.items number,
-      ap (λ t. c.loop-place.next + t) c.one_if.ensures.one ∙ count-next takers n c.loop-place.next c.args.own c.loop-place.invariant.1,
+      ap (λ t. c.loop-place.next + t) c.one_if-next.ensures.one ∙ count-next takers n c.loop-place.next c.args.own c.loop-place.invariant.1,
     )

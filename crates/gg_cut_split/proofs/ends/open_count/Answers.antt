@@ -10,7 +10,7 @@ loop-place-preserved c =
     let n = c.loop-place.place in
     let was : c.loop-place.count ≡ 0 + count_below (is_open takers) n = omega (arith, c.loop-place.invariant.0) in
     let more = count-next takers n c.loop-place.count 0 was in
-    let one = c.one_if.ensures in (
+    let one = c.one_if-count.ensures in (
       ap (λ t. c.loop-place.count + t) one.one ∙ more ∙ (let e : 0 + count_below (is_open takers) (n + 1) ≡ count_below (is_open takers) (n + 1) = omega arith in e),
       (let few = one.small in omega (arith, few, c.loop-place.invariant.1)),
     )
