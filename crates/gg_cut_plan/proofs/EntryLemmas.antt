@@ -1,5 +1,5 @@
 -- The hub, a unit or a listed memory takes and gives the same, whatever bridges there are.
-use Rattle.std.proofs.Common.{◌≡◌, ◌≢◌, ℕ, zero, suc, ◌+◌, ◌<◌, ◌≤◌, List, [], ◌∷◌, ◌++◌, length, map, filter, get_or, Bool, ◌==◌, refl, sym, ◌∙◌, ap, ap₂, subst, inl, inr, ◌⊎◌, arith}
+use Rattle.std.proofs.Common.{◌≡◌, ℕ, zero, suc, ◌<◌, ◌≤◌, List, [], ◌∷◌, ◌++◌, length, filter, get_or, Bool, ◌==◌, refl, sym, ◌∙◌, ap, ap₂, subst, inl, inr, arith}
 use Rattle.std.specs.Prelude.{◌↔◌, ⊤, cond, Contains}
 use Rattle.std.specs.List.{range_with_len}
 use Rattle.std.proofs.lemmas.Bool.{ne_eqb}

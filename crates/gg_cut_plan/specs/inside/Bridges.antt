@@ -3,7 +3,6 @@
 -- are this program's own.
 use Rattle.std.specs.Prelude.{◌≡◌, ℕ, All, ◌<◌, List, Bool, length}
 use Rattle.gg_flat.specs.Circuit.{FlatCircuit}
-use Rattle.gg_cut_plan.specs.Ports.{Bridges}
 use Rattle.gg_cut_plan.specs.inside.Listed.{AreMarks}
 
 -- ---- all entries

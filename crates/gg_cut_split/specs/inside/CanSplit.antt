@@ -1,6 +1,6 @@
 -- What a split is made of.
 -- Source: ICCAD 2019 (instances that are marked lie apart, each a model of its own).
-use Rattle.std.specs.Prelude.{◌≡◌, ℕ, ◌<◌, ◌^◌, List, [], length}
+use Rattle.std.specs.Prelude.{◌≡◌, ℕ, ◌<◌, ◌^◌, List, length}
 use Rattle.gg_flat.specs.Circuit.{FlatCircuit}
 use Rattle.gg_flat.specs.WellFormed.{IsWellFormed}
 use Rattle.gg_flat_tree.specs.Tree.{InstanceTree, IsTree, memory_at}
