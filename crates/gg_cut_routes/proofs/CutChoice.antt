@@ -21,7 +21,7 @@ use Rattle.gg_cut_routes.proofs.SubLemmas.{IsSub, sub-choice}
 use Rattle.gg_cut_routes.proofs.ChoiceLemmas.{before, before-is, before-once, hub-sub, other-sub}
 
 -- what the plain channels of a cut give
-pub record IsPlainCut (circuit : FlatCircuit) (tree : InstanceTree) (listed : Listed) (m : ℕ) : Type 0 where
+pub record IsPlainCut (circuit : FlatCircuit) (tree : InstanceTree) (listed : Listed) (entries : List BridgeEntry) (m : ℕ) : Type 0 where
   pub choice : (globals memories : List ℕ) → ((s : ℕ) → Contains globals s ↔ (Makes circuit tree listed (wires_of circuit tree listed entries) m s ⊎ Takes (wires_of circuit tree listed entries) m s)) → AllPairs (λ a b. a ≢ b) globals → ((k : ℕ) → Contains memories k ↔ HasMemory tree listed m k) → AllPairs (λ a b. a ≢ b) memories
       → IsChoice circuit globals (signals_of (wires_of circuit tree listed entries) (channels_to (wires_of circuit tree listed entries) m)) (givens_of (wires_of circuit tree listed entries) (channels_from (wires_of circuit tree listed entries) m)) memories
 
@@ -36,7 +36,7 @@ module _ (circuit : FlatCircuit) (tree : InstanceTree) (listed : Listed) (piped 
       (Contains-filter (λ j. memory_owner tree listed j == 0) (range_with_len 0 (length tree.memories)) has.place (in-range (length tree.memories) has.place has.known) (eq-eqb (memory_owner tree listed has.place) 0 has.owner))
       (subst (λ n. Contains (memory_fields circuit n) s) (sym has.is) field)
 
-  pub choice : (m : ℕ) (mine memories : List ℕ) → IsPlainCut circuit tree listed m → ((s : ℕ) → Contains mine s ↔ (MakesBy the_hub m s ⊎ Takes (routes the_hub) m s)) → AllPairs (λ a b. a ≢ b) mine → ((k : ℕ) → Contains memories k ↔ HasMemory tree listed m k) → AllPairs (λ a b. a ≢ b) memories
+  pub choice : (m : ℕ) (mine memories : List ℕ) → IsPlainCut circuit tree listed entries m → ((s : ℕ) → Contains mine s ↔ (MakesBy the_hub m s ⊎ Takes (routes the_hub) m s)) → AllPairs (λ a b. a ≢ b) mine → ((k : ℕ) → Contains memories k ↔ HasMemory tree listed m k) → AllPairs (λ a b. a ≢ b) memories
       → IsChoice circuit mine (signals_of (routes the_hub) (channels_to (routes the_hub) m)) (givens_of (routes the_hub) (channels_from (routes the_hub) m)) memories
   choice m mine memories plain has once banks memories-once =
       sub-choice circuit (before the_hub base m) (signals_of the_hub.base (channels_to the_hub.base m)) (givens_of the_hub.base (channels_from the_hub.base m)) memories mine

@@ -94,16 +94,9 @@ module _ (ys : List ℕ) where
     holds : (k : ℕ) → k < length xs → get_or ys (get_or at k 0) 0 ≡ get_or xs k 0
     apart : AllPairs (λ p q. p ≢ q) at
 
-  places-for : (xs : List ℕ) → AllPairs (λ a b. a ≢ b) xs → ((k : ℕ) → k < length xs → Contains ys (get_or xs k 0)) → PlacesOf xs
-  places-for [] once each =
-      record {
-        at = [];
-        count = refl;
-        inside = λ k d lt. absurd (omega (arith, lt));
-        holds = λ k lt. absurd (omega (arith, lt));
-        apart = λ i j d less lt. absurd (omega (arith, lt));
-      }
-  places-for (x ∷ xs) once each =
+  -- one more
+  place-more : (x : ℕ) (xs : List ℕ) → AllPairs (λ a b. a ≢ b) (x ∷ xs) → Contains ys x → PlacesOf xs → PlacesOf (x ∷ xs)
+  place-more x xs once h rest =
       record {
         at = h.0 ∷ rest.at;
         count = ap suc rest.count;
@@ -112,12 +105,6 @@ module _ (ys : List ℕ) where
         apart = AllPairs-cons (λ p q. p ≢ q) h.0 rest.at other rest.apart;
       }
     where
-      h : Contains ys x
-      h = each 0 (omega arith)
-
-      rest : PlacesOf xs
-      rest = places-for xs (λ i j d less lt. once (suc i) (suc j) d (omega (arith, less)) (omega (arith, lt))) (λ k lt. each (suc k) (omega (arith, lt)))
-
       is : get_or ys h.0 0 ≡ x
       is = get_or_default ys h.0 0 x h.1 ∙ h.2
 
@@ -133,6 +120,17 @@ module _ (ys : List ℕ) where
       other k d lt same =
           let low : k < length xs = omega (arith, lt, rest.count) in
           once 0 (suc k) 0 (omega arith) (omega (arith, low)) (sym is ∙ ap (λ q. get_or ys q 0) (same ∙ get_or_default rest.at k d 0 lt) ∙ rest.holds k low)
+
+  places-for : (xs : List ℕ) → AllPairs (λ a b. a ≢ b) xs → ((k : ℕ) → k < length xs → Contains ys (get_or xs k 0)) → PlacesOf xs
+  places-for [] once each =
+      record {
+        at = [];
+        count = refl;
+        inside = λ k d lt. absurd (omega (arith, lt));
+        holds = λ k lt. absurd (omega (arith, lt));
+        apart = λ i j d less lt. absurd (omega (arith, lt));
+      }
+  places-for (x ∷ xs) once each = place-more x xs once (each 0 (omega arith)) (places-for xs (λ i j d less lt. once (suc i) (suc j) d (omega (arith, less)) (omega (arith, lt))) (λ k lt. each (suc k) (omega (arith, lt))))
 
   pub contained-few : (xs : List ℕ) → AllPairs (λ a b. a ≢ b) xs → ((k : ℕ) → k < length xs → Contains ys (get_or xs k 0)) → length xs ≤ length ys
   contained-few xs once each =

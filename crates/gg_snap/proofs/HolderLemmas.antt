@@ -70,7 +70,7 @@ module _ (hub : Hub) (base : IsBase hub) (s : ℕ) (plain : copied hub.circuit s
   no-origin free zero = refl
   no-origin free (suc n) = by (is_taken hub s) (is_own hub s) free
     where
-      by : (taken own : Bool) → taken ≡ false → (if taken then (if hub.piped s || hub.driven s then None else Some s) else (if own then option_and_then (origin_within hub n) (copied hub.circuit s) else None)) ≡ None
+      by : (taken own : Bool) → taken ≡ false → (if taken then (if hub.piped s then None else Some s) else (if own then option_and_then (origin_within hub n) (copied hub.circuit s) else None)) ≡ None
       by true own e = cc
       by false true e = ap (λ (o : Option ℕ). option_and_then (origin_within hub n) o) plain
       by false false e = refl

@@ -32,7 +32,7 @@ module _ (hub : Hub) (base : IsBase hub) (m : ℕ) (silent : hub.silent m ≡ tr
           absurd (no-origin w x h from is (direct-is hub found.item x (number-is x (direct_of hub found.item) found.passes)).plain)
 
       at : (x : ℕ) → origin hub w.signal ≡ Some x → Chain hub (length hub.circuit.signals) w.signal x → is_gone hub w.signal ≡ false
-      at x e (Here more same taken plain free is) = ap (left_by hub) e ∙ left x is (cases_Bool (has_left hub x))
+      at x e (Here more same taken plain is) = ap (left_by hub) e ∙ left x is (cases_Bool (has_left hub x))
       at x e (Copy more t same taken own to rest) = absurd (own-no-wire hub base w h own)
 
       by : (o : Option ℕ) → origin hub w.signal ≡ o → is_gone hub w.signal ≡ false
