@@ -79,9 +79,8 @@ cut circuit owners base c =
       base = base;
       held = [];
       stops = [];
-      memory = λ m. m == 2;
+      silent = λ m. m == 2;
       piped = λ s. s == c;
-      driven = λ s. false;
       direct = false;
     }
 
