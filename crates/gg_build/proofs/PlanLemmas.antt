@@ -36,7 +36,6 @@ pub mod BodyLemmas
 mod WorkedAlone
 pub mod TurnedLemmas
 pub mod PlaceLemmas
-pub mod SeatLemmas
 pub mod BridgeLemmas
 pub mod RowLemmas
 pub mod RunLemmas

@@ -8,8 +8,7 @@ use Rattle.gg_cut_plan.specs.declared.plan.Plan.{Plan}
 use Rattle.gg_cut_plan.specs.declared.plan.Machine as planned
 use Rattle.gg_cut_plan.specs.declared.plan.Channel.{Channel}
 use Rattle.gg_cut_plan.specs.declared.wires.Wire.{Wire as Link}
-use Rattle.gg_cut_plan.specs.Direct.{plan_routes}
-use Rattle.gg_cut_plan.specs.Seated.{plan_bridges, plan_wires, seated_wire}
+use Rattle.gg_cut_plan.specs.Direct.{plan_wires}
 use Rattle.gg_cut_plan.specs.Plan.{wire_at as link_at, channels_to, channels_from}
 use Rattle.gg_cut_plan.proofs.RangeLemmas.{filter-few}
 use Rattle.gg_cut_split.proofs.ClosedLemmas.FaultlessLemmas.{faultless-few}
@@ -132,8 +131,4 @@ pub links-in : (plan : Plan) (is : IsFaultless plan) → AreLinks plan (plan_wir
 links-in plan is = links-of is.design is.request is.models is.can is.default plan is.some is.planned
 
 pub few-links : (plan : Plan) (is : IsFaultless plan) → length (plan_wires is.design.circuit is.design.tree is.request) < 2 ^ 32
-few-links plan is =
-    let bridges = plan_bridges is.design.circuit is.design.tree is.request in
-    let most = (faultless-few is.design is.request (no-fault is.design is.request is.models is.can)).channels in
-    let count = length-map (plan_routes is.design.circuit is.design.tree is.request) (seated_wire bridges) in
-    omega (arith, most, count)
+few-links plan is = let most = (faultless-few is.design is.request (no-fault is.design is.request is.models is.can)).channels in omega (arith, most)

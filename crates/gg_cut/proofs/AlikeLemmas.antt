@@ -17,7 +17,7 @@ use Rattle.gg_cut_plan.specs.Alike.{IsAlike, AreAlike}
 use Rattle.gg_cut_plan.specs.Fault.{first_fault}
 use Rattle.gg_cut_plan.specs.Hosts.{leader}
 use Rattle.gg_cut_plan.specs.Plan.{IsBody, IsMachine}
-use Rattle.gg_cut_plan.specs.Seated.{machine_end, plan_bridges}
+use Rattle.gg_cut_plan.specs.Ports.{machine_end, plan_bridges}
 use Rattle.gg_flat_tree.specs.Tree.{path_at}
 use Rattle.gg_cut_parts.specs.declared.draft.Draft.{Draft}
 use Rattle.gg_cut_parts.specs.inside.Draft.{draft_hub}

@@ -12,15 +12,15 @@ use Rattle.gg_cut_plan.specs.declared.plan.BridgeBody.{BridgeBody}
 use Rattle.gg_cut_plan.specs.declared.plan.Machine.{Machine}
 use Rattle.gg_cut_plan.specs.declared.wires.Wire.{Wire}
 use Rattle.gg_cut_plan.specs.Bridges.{Models}
-use Rattle.gg_cut_plan.specs.Direct.{Hub}
+use Rattle.gg_cut_plan.specs.Direct.{Hub, plan_wires}
 use Rattle.gg_cut_plan.specs.Hosts.{leader}
 use Rattle.gg_cut_plan.specs.Listed.{instance_of, listed_of}
-use Rattle.gg_cut_plan.specs.Machines.{first_memory, first_source, first_unit}
+use Rattle.gg_cut_plan.specs.Machines.{first_memory, first_unit}
 use Rattle.gg_cut_plan.specs.Plan.{IsBody, IsBridgeBody, channels_from, channels_to, entry_at}
-use Rattle.gg_cut_plan.specs.Seated.{Bridges, first_bridge, first_kept_tray, plan_bridges, plan_wires}
+use Rattle.gg_cut_plan.specs.Ports.{Bridges, first_bridge, first_kept_tray, plan_bridges}
 use Rattle.gg_cut_reference.proofs.FittingLemmas.OpenLemmas.{ins-count}
 use Rattle.gg_cut_parts.specs.declared.machine_draft.MachineDraft.{MachineDraft}
-use Rattle.gg_cut_machines.specs.inside.Seats.{IsModelled}
+use Rattle.gg_cut_machines.specs.inside.Modelled.{IsModelled}
 use Rattle.gg_cut_machines.proofs.LeaderLemmas.{leader-high}
 use Rattle.gg_cut.specs.inside.Drafted.{IsDraftBody, IsUnitBody}
 use Rattle.gg_cut.specs.inside.Made.{HasAscending, IsMadeBody, IsTimedUnit}

@@ -16,4 +16,5 @@ pub mod WorkedPipe
 pub mod WorkedCore
 pub mod WorkedBridge
 pub mod BodyLemmas
+pub mod RoleLemmas
 pub mod ExistenceLemmas

@@ -3,7 +3,6 @@ use Rattle.std.proofs.Common.{◌≡◌, ℕ, ◌<◌, length, subst, None, List
 use Rattle.gg_order.specs.Design.{Ordered}
 use Rattle.gg_cut_plan.specs.declared.plan.Plan.{Plan}
 use Rattle.gg_cut_plan.specs.Bridges.{Models, bridge_faults}
-use Rattle.gg_cut_plan.specs.Machines.{first_source}
 use Rattle.gg_cut_plan.specs.Plan.{IsPlan, wire_at, channels_to, channels_from, signals_of, givens_of, IsBody, IsCutPart, IsMachine, NeedsIn}
 use Rattle.gg_cut_parts.specs.declared.draft.Draft.{Draft}
 use Rattle.std.specs.Prelude.{All, AllPairs}
@@ -22,9 +21,7 @@ use Rattle.gg_cut_plan.specs.Listed.{listed_of}
 use Rattle.gg_cut_plan.specs.Fault.{range_fault}
 use Rattle.gg_bits.specs.Lists.{first_of}
 use Rattle.gg_cut_plan.specs.Channels.{capacity_of}
-use Rattle.gg_cut_plan.specs.Direct.{Hub, is_piped, plan_hub, plan_routes}
-use Rattle.gg_cut_plan.specs.Seated.{Bridges, plan_bridges, plan_wires}
-use Rattle.gg_cut_reference.proofs.FittingLemmas.LowLemmas.{givens-alike, low-from, low-to, signals-alike}
+use Rattle.gg_cut_plan.specs.Direct.{Hub, is_piped, plan_hub, plan_wires}
 use Rattle.gg_flat_tree.specs.Tree.{InstanceTree, path_at}
 use Rattle.gg_cut.proofs.FaultlessLemmas.{capacity-sound}
 use Rattle.gg_cut.specs.Made.{IsCapacity}
@@ -37,12 +34,6 @@ FormsParts = (whole part : FlatCircuit) (globals held memories : List ℕ) (cloc
 
 -- the machines of the plan run pieces whose needs can be computed
 module _ (design : Ordered) (request : Request) (models : Models) (formed : IsWellFormed design.circuit) (law : FormsParts) (m : ℕ) where
-  abbrev bridges : Bridges
-  bridges = plan_bridges design.circuit design.tree request
-
-  abbrev base : List Wire
-  base = plan_routes design.circuit design.tree request
-
   abbrev joined : List Wire
   joined = plan_wires design.circuit design.tree request
 
@@ -53,20 +44,20 @@ module _ (design : Ordered) (request : Request) (models : Models) (formed : IsWe
   all_listed = listed_of design.tree request
 
   module _ (taken given : List ℕ) (to : taken ≡ channels_to joined m) (from : given ≡ channels_from joined m) where
-    served : (part : Part) → m < first_source all_listed → IsCutPart design all_listed hub m part → IsServed joined part taken given
-    served part low cut =
+    served : (part : Part) → IsCutPart design all_listed hub m part → IsServed joined part taken given
+    served part cut =
         record {
           formed = law design.circuit part.piece part.globals part.held part.memories part.clocks formed cut.is;
           ordered = cut.ordered;
           once = cut.is.once;
           known = cut.is.outs;
-          ins = cut.ins ∙ sym (signals-alike bridges base (channels_to base m)) ∙ ap (signals_of joined) (sym (to ∙ low-to bridges base m low));
-          outs = cut.outs ∙ sym (givens-alike bridges base (channels_from base m)) ∙ ap (givens_of joined) (sym (from ∙ low-from bridges base m low));
+          ins = cut.ins ∙ ap (signals_of joined) (sym to);
+          outs = cut.outs ∙ ap (givens_of joined) (sym from);
         }
 
     served-body : (body : Body) → IsBody design request models all_listed hub m body → IsServedBody joined body taken given
-    served-body (Cut part) is = served part (let low = is.0 in omega (arith, low)) is.1
-    served-body (Memory part) is = served part is.1 is.2
+    served-body (Cut part) is = served part is.1
+    served-body (Memory part) is = served part is.2
     served-body (Source place) is = tt
     served-body Tray is = tt
     served-body (Bridge bridge) is = tt

@@ -8,7 +8,8 @@ use Rattle.gg_cut_plan.specs.Bridges.{Models}
 use Rattle.gg_cut_plan.specs.Channels.{wire}
 use Rattle.gg_cut_plan.specs.Hosts.{host_of}
 use Rattle.gg_cut_plan.specs.Plan.{IsBridgeBody, channels_from, channels_to, machine_names}
-use Rattle.gg_cut_plan.specs.Seated.{machine_end, plan_bridges, plan_wires}
+use Rattle.gg_cut_plan.specs.Ports.{machine_end, plan_bridges}
+use Rattle.gg_cut_plan.specs.Direct.{plan_wires}
 use Rattle.gg_cut.proofs.WorkedShare.{circuit, tree, design, request, listed}
 
 -- the units `u` and `v` share a host

@@ -75,7 +75,7 @@ abbrev pub listed : Listed
 listed = listed_of tree request
 
 abbrev pub wires : List Wire
-wires = wires_of circuit tree listed
+wires = wires_of circuit tree listed []
 
 abbrev pub routed : Hub
 routed = plan_hub circuit tree request

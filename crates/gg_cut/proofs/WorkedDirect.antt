@@ -15,7 +15,7 @@ use Rattle.gg_cut_plan.specs.declared.plan.Body.TheVariants.{Cut, Source, Tray}
 use Rattle.gg_cut_plan.specs.declared.plan.Machine.{Machine}
 use Rattle.gg_cut_plan.specs.declared.plan.Channel.{Channel}
 use Rattle.gg_cut_plan.specs.declared.wires.Wire.{Wire}
-use Rattle.gg_cut_plan.specs.Direct.{Hub, plan_hub, plan_routes}
+use Rattle.gg_cut_plan.specs.Direct.{Hub, plan_hub, plan_wires}
 use Rattle.gg_cut_plan.specs.Channels.{capacity_of}
 use Rattle.gg_cut_plan.specs.Plan.{IsPlan, IsMachine, IsChannel, IsCutPart, wire_at}
 use Rattle.gg_cut.proofs.WorkedTests.{each-below, ascending, names-below, has-needs}
@@ -28,7 +28,7 @@ abbrev request : Request
 request = record share.request { direct = true }
 
 abbrev wires : List Wire
-wires = plan_routes circuit tree request
+wires = plan_wires circuit tree request
 
 abbrev routed : Hub
 routed = plan_hub circuit tree request

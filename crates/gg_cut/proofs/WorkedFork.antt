@@ -22,7 +22,7 @@ use Rattle.gg_cut_plan.specs.declared.plan.Channel.{Channel}
 use Rattle.gg_cut_plan.specs.declared.plan.Plan.{Plan}
 use Rattle.gg_cut_plan.specs.declared.listed.Listed.{Listed}
 use Rattle.gg_cut_plan.specs.declared.wires.Wire.{Wire}
-use Rattle.gg_cut_plan.specs.Direct.{Hub, plan_hub, plan_routes}
+use Rattle.gg_cut_plan.specs.Direct.{Hub, plan_hub, plan_wires}
 use Rattle.gg_cut_plan.specs.Listed.{listed_of}
 use Rattle.gg_cut_plan.specs.Channels.{capacity_of}
 use Rattle.gg_cut_plan.specs.Plan.{IsPlan, IsMachine, IsChannel, IsCutPart, wire_at}
@@ -74,7 +74,7 @@ abbrev listed : Listed
 listed = listed_of tree request
 
 abbrev wires : List Wire
-wires = plan_routes circuit tree request
+wires = plan_wires circuit tree request
 
 abbrev routed : Hub
 routed = plan_hub circuit tree request

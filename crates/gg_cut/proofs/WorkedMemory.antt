@@ -71,7 +71,7 @@ listed = listed_of tree request
 
 -- the hub is machine 0, `m` is 1, the sources of `a` and `v` are 2 and 3, the trays of `o0` and `o1` are 4 and 5
 abbrev pub wires : List Wire
-wires = wires_of circuit tree listed
+wires = wires_of circuit tree listed []
 
 abbrev pub routed : Hub
 routed = plan_hub circuit tree request

@@ -74,7 +74,7 @@ abbrev listed : Listed
 listed = listed_of tree outer
 
 abbrev wires : List Wire
-wires = wires_of circuit tree listed
+wires = wires_of circuit tree listed []
 
 abbrev routed : Hub
 routed = plan_hub circuit tree outer

@@ -6,7 +6,7 @@ use Rattle.gg_partfile.specs.declared.request.Request.{Request}
 use Rattle.gg_cut_plan.specs.declared.plan.Channel.{Channel}
 use Rattle.gg_cut_plan.specs.declared.plan.Machine.{Machine}
 use Rattle.gg_cut_plan.specs.Channels.{capacity_of}
-use Rattle.gg_cut_plan.specs.Direct.{Hub, is_piped, plan_hub, plan_routes}
+use Rattle.gg_cut_plan.specs.Direct.{Hub, is_piped, plan_hub, plan_wires}
 use Rattle.gg_cut_plan.specs.Fault.{first_fault}
 use Rattle.gg_cut_plan.specs.Plan.{IsPlan, IsMachine, IsChannel, IsCutPart, wire_at}
 use Rattle.gg_cut.proofs.WorkedCore.{nibble, circuit, tree, design, request, listed, hub, core, hub-part, core-part, machines}
@@ -44,9 +44,9 @@ channels one other =
     record { signal = 2; name = codes "tile.core.o"; ty = nibble; producer = 1; consumer = 0; capacity = 2; pipe = one; needs = [] }
     ∷ record { signal = 0; name = codes "o"; ty = nibble; producer = 0; consumer = 2; capacity = 2; pipe = other; needs = 0 ∷ [] } ∷ []
 
-is-channel : (c : ℕ) (any : Channel) → c < 2 → IsChannel design (capacity_of [] 2) (is_piped circuit late) machines (wire_at (plan_routes circuit tree late) c) (slice_index_or (channels true false) c any)
+is-channel : (c : ℕ) (any : Channel) → c < 2 → IsChannel design (capacity_of [] 2) (is_piped circuit late) machines (wire_at (plan_wires circuit tree late) c) (slice_index_or (channels true false) c any)
 is-channel c any =
-    both (λ k. IsChannel design (capacity_of [] 2) (is_piped circuit late) machines (wire_at (plan_routes circuit tree late) k) (slice_index_or (channels true false) k any))
+    both (λ k. IsChannel design (capacity_of [] 2) (is_piped circuit late) machines (wire_at (plan_wires circuit tree late) k) (slice_index_or (channels true false) k any))
     (record { signal = refl; name = refl; type = refl; producer = refl; consumer = refl; bound = refl; pipe = refl; ascending = ascending [] refl; needs = λ other. has-needs core [] 2 [] refl })
     (record { signal = refl; name = refl; type = refl; producer = refl; consumer = refl; bound = refl; pipe = refl; ascending = ascending (0 ∷ []) refl; needs = λ other. has-needs hub (0 ∷ []) 0 (0 ∷ []) refl })
     c

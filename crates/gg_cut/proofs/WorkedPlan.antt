@@ -153,7 +153,7 @@ b-part =
 
 -- the channels of the cut
 abbrev pub wires : List Wire
-wires = wires_of circuit tree listed
+wires = wires_of circuit tree listed []
 
 abbrev pub routed : Hub
 routed = plan_hub circuit tree both_units

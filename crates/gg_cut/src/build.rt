@@ -10,7 +10,6 @@ ghost use Rattle.gg_cut_plan.specs.Fault.{IsSmall, Tells, first_fault_with};
 ghost use Rattle.gg_cut_plan.specs.Plan.{IsPlan};
 ghost use Rattle.gg_cut_parts.specs.inside.Draft.{IsDraft};
 ghost use Rattle.gg_cut.specs.inside.Drafted.{AreDraftChannels, AreDraftMachines};
-ghost use Rattle.gg_cut_machines.specs.inside.Drafted.{AreDraftSeats};
 ghost use Rattle.gg_cut.specs.Made.{IsCapacity};
 
 use crate::channels::channels_of;
@@ -19,9 +18,8 @@ use crate::machines::machines_of;
 use crate::needs::needs_table;
 use gg_bits::Items;
 use gg_clocks::Ratio;
-use gg_cut_machines::{Seats, seats_of};
 use gg_cut_parts::Draft;
-use gg_cut_plan::{Channel, CutFault, Machine, Models, Plan, Wire};
+use gg_cut_plan::{Channel, CutFault, Machine, Models, Plan};
 use gg_cut_rules::clock_ratios;
 use gg_order::Design;
 use gg_part::part_formed;
@@ -77,9 +75,8 @@ fn plan_by(alloc: Global, draft: Draft) -> Result<Plan, AllocError>
     ensures capacities { IfOk result (λ plan. All (λ channel. IsCapacity channel.capacity) plan.channels) }
 {
     let ratios = ratios_for(alloc, &draft)?;
-    let seats = seats_of(alloc, &draft)?;
-    let machines = machines_of(alloc, &draft, &seats)?;
-    let channels = channels_for(alloc, &draft, &seats, &machines)?;
+    let machines = machines_of(alloc, &draft)?;
+    let channels = channels_for(alloc, &draft, &machines)?;
     Ok(Plan {
         machines: Items::from(machines),
         channels: Items::from(channels),
@@ -100,18 +97,16 @@ fn ratios_for(alloc: Global, draft: &Draft) -> Result<Vec<Ratio>, AllocError>
 fn channels_for(
     alloc: Global,
     draft: &Draft,
-    seats: &Seats,
     machines: &[Machine],
 ) -> Result<Vec<Channel>, AllocError>
     requires draft { IsDraft draft.now }
-    requires seats { AreDraftSeats draft.now seats.now }
     requires machines { AreDraftMachines draft.now machines.now }
     ensures { IfOk result (λ channels. AreDraftChannels draft.now machines.now channels.items) }
 {
     // for the invariant only
     let _ = draft.design.piece();
     part_formed();
-    let wires: &[Wire] = &seats.wires;
+    let wires = draft.wires();
     let mut table = needs_table(alloc, wires, machines)?;
     let channels = channels_of(alloc, draft, wires, &mut table)?;
     Ok(channels)

@@ -5,7 +5,7 @@ ghost use Rattle.gg_flat_tree.specs.Tree.{path_at};
 ghost use Rattle.gg_cut_plan.specs.Channels.{capacity_of};
 
 use gg_bits::Name;
-use gg_cut_parts::{filled, set_named};
+use gg_cut_split::{filled, set_named};
 use gg_flat::Piece;
 use std::alloc::{AllocError, Global};
 

@@ -2,7 +2,7 @@
 ghost use Rattle.std.specs.Prelude.{◌≡◌, ◌<◌, ◌^◌, length, map, None, All, IfOk};
 ghost use Rattle.gg_part.specs.KeepsToTree.{KeepsToTree};
 ghost use Rattle.gg_flat.specs.WellFormed.{IsWellFormed};
-ghost use Rattle.gg_cut_plan.specs.Direct.{plan_routes};
+ghost use Rattle.gg_cut_plan.specs.Direct.{plan_wires};
 ghost use Rattle.gg_cut_plan.specs.Fault.{IsSmall, Tells, entry_faults, first_fault, first_fault_with};
 ghost use Rattle.gg_bits.specs.Lists.{first_of};
 ghost use Rattle.gg_cut_plan.specs.Held.{AreHeldOnce};
@@ -14,7 +14,7 @@ use gg_cut_parts::Draft;
 use gg_cut_plan::{CutFault, Listed, Models, Wire};
 use gg_cut_routes::plan_routes;
 use gg_cut_rules::{judge_bridges, judge_channels, judge_clocks, judge_entries, judge_pipes};
-use gg_cut_split::{listed_apart, split};
+use gg_cut_split::{ends_of, listed_apart, split};
 use gg_order::Design;
 use gg_partfile::Request;
 use std::alloc::{AllocError, Global};
@@ -46,8 +46,10 @@ pub(crate) fn draft_of<'a>(
 {
     let listed = judge_entries(alloc, design, request)?;
     listed_apart();
-    let split = split(alloc, design, &listed)?;
-    let routed = plan_routes(alloc, design, request, &listed, &split)?;
+    let entries = request.bridges.as_slice();
+    let ends = ends_of(alloc, design, &listed, entries)?;
+    let split = split(alloc, design, &listed, entries, &ends)?;
+    let routed = plan_routes(alloc, design, request, &listed, &ends, &split)?;
     judge_routed(alloc, design, request, &listed, routed.wires.as_slice())?;
     judge_bridges(alloc, design.piece(), design.tree(), models, request)?;
     Ok(Draft {
@@ -56,6 +58,7 @@ pub(crate) fn draft_of<'a>(
         models,
         default_capacity,
         listed,
+        ends,
         split,
         routed,
     })
@@ -74,7 +77,7 @@ fn judge_routed(
     requires listed { listed.now ≡ listed_of design.now.tree request.now }
     requires units { length listed.now.units < 2 ^ 32 }
     requires memories { length listed.now.memories < 2 ^ 32 }
-    requires wires { wires.now ≡ plan_routes design.now.circuit design.now.tree request.now }
+    requires wires { wires.now ≡ plan_wires design.now.circuit design.now.tree request.now }
     requires known { All (λ w. w.signal < length design.now.circuit.signals) wires.now }
     ensures { Tells (first_fault design.now request.now) result }
 {

@@ -7,7 +7,7 @@
 //!   fault. Each channel's capacity is from 1 to 4,096. The channels are what gg_cut_plan's `specs/Direct` leaves;
 //! - `deps` returns the channels that a channel of a plan needs. It allocates nothing.
 //!
-//! `draft_of` (`judged`) checks the request and makes gg_cut_parts' `Draft`. gg_cut_machines numbers the machines, and each is made once
+//! `draft_of` (`judged`) checks the request and makes gg_cut_parts' `Draft`. gg_cut_split numbers the machines, and each is made once
 //! (`machines`).
 //!
 //! `cut` takes the time of gg_cut_split, gg_cut_routes, gg_part, gg_order and gg_cut_machines, and otherwise linear time.

@@ -1,25 +1,25 @@
 //! The machines of a plan.
-ghost use Rattle.std.specs.Prelude.{◌≡◌, ℕ, ◌<◌, ◌≤◌, [], length, slice_index_or, IfOk, OnOk};
+ghost use Rattle.std.specs.Prelude.{◌≡◌, ℕ, ◌+◌, ◌<◌, [], length, slice_index_or, IfOk, OnOk};
 ghost use Rattle.gg_flat.specs.Line.{value_at};
 ghost use Rattle.gg_flat_tree.specs.Tree.{path_at};
 ghost use Rattle.gg_cut_plan.specs.Alike.{AreAlike};
 ghost use Rattle.gg_cut_plan.specs.Hosts.{leader};
 ghost use Rattle.gg_cut_plan.specs.Machines.{first_source};
-ghost use Rattle.gg_cut_plan.specs.Seated.{first_bridge};
+ghost use Rattle.gg_cut_plan.specs.Ports.{first_bridge};
 ghost use Rattle.gg_cut_plan.specs.declared.plan.Body.TheVariants.{Bridge};
 ghost use Rattle.gg_cut_split.specs.inside.Again.{IsUnitAgain};
 ghost use Rattle.gg_cut_parts.specs.inside.Draft.{IsDraft, IsMachineDraft};
-ghost use Rattle.gg_cut_machines.specs.inside.Drafted.{draft_bridges, draft_end, AreDraftSeats};
+ghost use Rattle.gg_cut_machines.specs.inside.Drafted.{draft_bridges, draft_end};
 ghost use Rattle.gg_cut.specs.inside.Drafted.{AreDraftMachines, AreEarlier, IsDraftBody, IsMaking, IsNextBody, IsPlaced, IsUnitBody};
 ghost use Rattle.gg_cut.specs.inside.Made.{HasAscending, IsTimedBody, IsTimedUnit};
 
 use crate::making::{Making, hub_signals, kept_signals};
 use gg_bits::{Ids, Name, copied};
-use gg_cut_machines::{Places, Seats, bridge_body, given, places_of, taken};
-use gg_cut_parts::{Draft, MachineDraft, cut_part, domains_of, filled, moved_part};
-use gg_cut_plan::{Body, BridgeBody, Machine, Wire};
+use gg_cut_machines::{Places, bridge_body, given, places_of, taken};
+use gg_cut_parts::{Draft, MachineDraft, cut_part, domains_of, moved_part};
+use gg_cut_plan::{Body, BridgeBody, Machine, Role};
 use gg_cut_reference::bridges_fit;
-use gg_cut_split::units_stand_again;
+use gg_cut_split::{filled, units_stand_again};
 use std::alloc::{AllocError, Global};
 
 // The machines of a draft, by their numbers.
@@ -27,22 +27,16 @@ use std::alloc::{AllocError, Global};
 // # Errors
 //
 // Returns `AllocError` if an allocation fails.
-pub(crate) fn machines_of(
-    alloc: Global,
-    draft: &Draft,
-    seats: &Seats,
-) -> Result<Vec<Machine>, AllocError>
-    requires draft { IsDraft draft.now }
-    requires seats { AreDraftSeats draft.now seats.now }
+pub(crate) fn machines_of(alloc: Global, draft: &Draft) -> Result<Vec<Machine>, AllocError>
+    requires { IsDraft draft.now }
     ensures { IfOk result (λ machines. AreDraftMachines draft.now machines.items) }
 {
-    let places = places_of(alloc, draft, seats)?;
+    let places = places_of(alloc, draft)?;
     let domains = domains_of(alloc, draft.design, &draft.listed)?;
     let kept = hub_signals(alloc, draft)?;
     let hub: &[u32] = &kept;
     let making = Making {
         draft,
-        seats,
         places: &places,
         domains: &domains,
         hub,
@@ -58,7 +52,7 @@ fn all_machines(alloc: Global, making: &Making) -> Result<Vec<Machine>, AllocErr
 {
     let mut table = filled(alloc, making.draft.design.piece().signal_count(), 0)?;
     let mut machines = Vec::new(alloc);
-    for number in 0..making.seats.end {
+    for number in 0..making.draft.numbering().count() {
         let body = body_at(alloc, making, number, &machines, &mut table)?;
         let made = machine_at(alloc, making.places, number, body)?;
         machines.push(made)?;
@@ -138,29 +132,28 @@ fn body_at(
     ensures count { OnOk result (length table.new.items ≡ length making.now.draft.now.design.now.circuit.signals) }
     ensures zero { OnOk result ((s : ℕ) → value_at table.new.items s ≡ 0) }
 {
-    let starts = making.seats.starts;
-    if number < starts.source {
-        part_at(alloc, making, number, machines)
-    } else if number < starts.tray {
-        Ok(Body::Source((number - starts.source) as u32))
-    } else if number < starts.bridge {
-        Ok(Body::Tray)
-    } else {
-        let bridge = bridge_at(alloc, making, number, table)?;
-        Ok(Body::Bridge(bridge))
+    match making.draft.numbering().role(number) {
+        Role::Hub | Role::Unit(_) | Role::Memory(_) => part_at(alloc, making, number, machines),
+        Role::Source(place) => Ok(Body::Source(place)),
+        Role::Tray(_) => Ok(Body::Tray),
+        Role::Bridge(place) => {
+            let bridge = bridge_at(alloc, making, number, place as usize, table)?;
+            Ok(Body::Bridge(bridge))
+        }
     }
 }
 
-// What the bridge with a number does. `table` has 0 for each signal, before and after.
+// What the bridge with a number does, by its place among the bridges. `table` has 0 for each signal, before and after.
 fn bridge_at(
     alloc: Global,
     making: &Making,
     number: usize,
+    place: usize,
     table: &mut Vec<u32>,
 ) -> Result<BridgeBody, AllocError>
     requires making { IsMaking making.now }
-    requires bridge { first_bridge (draft_bridges making.now.draft.now) ≤ number }
-    requires known { number < draft_end making.now.draft.now }
+    requires place { place < length making.now.draft.now.request.now.bridges }
+    requires number { number ≡ first_bridge (draft_bridges making.now.draft.now) + place }
     requires count { length table.old.items ≡ length making.now.draft.now.design.now.circuit.signals }
     requires zero { (s : ℕ) → value_at table.old.items s ≡ 0 }
     ensures body { IfOk result (λ bridge. IsDraftBody making.now.draft.now number (Bridge bridge)) }
@@ -170,9 +163,8 @@ fn bridge_at(
     let draft = making.draft;
     let piece = draft.design.piece();
     let entries = draft.request.bridges.as_slice();
-    let place = number - making.seats.starts.bridge;
     let entry = &entries[place];
-    let wires: &[Wire] = &making.seats.wires;
+    let wires = draft.wires();
     let ins = taken(making.places, number);
     let outs = given(making.places, number);
     bridges_fit();

@@ -4,18 +4,17 @@ ghost use Rattle.gg_cut_split.specs.declared.share.Share.{Share};
 ghost use Rattle.gg_cut_routes.specs.inside.Share.{stays_by};
 ghost use Rattle.gg_cut_parts.specs.inside.Draft.{IsDraft};
 
-use gg_cut_machines::{Places, Seats};
+use gg_cut_machines::Places;
 use gg_cut_parts::{Domains, Draft};
 use gg_cut_routes::staying;
 use gg_cut_split::Share;
 use std::alloc::{AllocError, Global};
 
-// What the machines of a plan are made from: the draft, the numbers of the machines, what each has by its number, what clocks they
-// follow, and what stays of the hub's signals.
+// What the machines of a plan are made from: the draft, what each machine has by its number, what clocks they follow, and what stays of the hub's
+// signals.
 #[derive(Clone, Copy)]
 pub(crate) struct Making<'s, 'a> {
     pub(crate) draft: &'s Draft<'a>,
-    pub(crate) seats: &'s Seats,
     pub(crate) places: &'s Places,
     pub(crate) domains: &'s Domains,
     pub(crate) hub: &'s [u32],

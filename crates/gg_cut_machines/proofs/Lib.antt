@@ -2,5 +2,4 @@ pub mod HostLemmas
 pub mod LeaderLemmas
 pub mod NameLemmas
 pub mod PortLemmas
-pub mod SeatLemmas
 pub mod WireLemmas

@@ -1,28 +1,50 @@
 -- The names of the machines of a plan, as one list.
-use Rattle.std.proofs.Common.{◌≡◌, ℕ, suc, ◌+◌, ◌-◌, ◌<◌, List, [], ◌∷◌, ◌++◌, length, map, take, drop, codes, Bool, true, false, not, refl, sym, ◌∙◌, ap, ap₂, subst, append_assoc, arith}
-use Rattle.std.specs.Prelude.{cond, filter, if◌then◌else◌}
+use Rattle.std.proofs.Common.{◌≡◌, ℕ, zero, suc, ◌+◌, ◌-◌, ◌<◌, ◌≤◌, List, [], ◌∷◌, ◌++◌, length, map, take, drop, codes, Bool, true, false, not, refl, sym, ◌∙◌, ap, ap₂, subst, append_assoc, arith}
+use Rattle.std.specs.Prelude.{cond, filter, is_none}
 use Rattle.std.specs.List.{range_with_len}
-use Rattle.std.proofs.lemmas.List.{get_or-take, length-take-le, map-append}
+use Rattle.std.proofs.lemmas.List.{append-nil, get_or-take, get_or_append_left, length-append, length-drop, length-take-le, take-append-drop}
 use Rattle.gg_flat.specs.Circuit.{FlatCircuit}
 use Rattle.gg_flat.specs.Line.{value_at}
 use Rattle.gg_flat_tree.specs.Tree.{path_at}
 use Rattle.gg_order.specs.Design.{Ordered}
 use Rattle.gg_partfile.specs.Size.{all_driven, all_seen}
 use Rattle.gg_partfile.specs.declared.request.Request.{Request}
-use Rattle.gg_cut_plan.proofs.RangeLemmas.{filter-more}
 use Rattle.gg_cut_plan.specs.Listed.{is_among}
-use Rattle.gg_cut_plan.specs.Seated.{Bridges, open_ins, open_outs, output_count, plan_bridges}
-use Rattle.gg_cut_reference.proofs.FittingLemmas.OpenLemmas.{undriven-is, unseen-is}
-use Rattle.gg_cut_machines.specs.inside.Seats.{AreTakers, is_open}
-use Rattle.gg_cut_machines.proofs.SeatLemmas.{open-test}
+use Rattle.gg_cut_plan.specs.Ports.{Bridges, open_ins, open_outs, output_count, plan_bridges, undriven, unseen}
+use Rattle.gg_cut_reference.proofs.FittingLemmas.OpenLemmas.{stop-unseen, undriven-is, unseen-is}
+use Rattle.gg_cut_split.specs.inside.Ends.{at_places}
 
--- what the items at the places that pass one test are made into is what the items that pass another are made into, if the tests agree
-at-places : (keeps test : ℕ → Bool) (f : ℕ → List ℕ) (all xs : List ℕ) (n : ℕ) → ((k : ℕ) → k < length xs → value_at all (n + k) ≡ value_at xs k) → ((k : ℕ) → k < length xs → keeps (n + k) ≡ test (value_at xs k))
-    → map (λ p. f (value_at all p)) (filter keeps (range_with_len n (length xs))) ≡ map f (filter test xs)
-at-places keeps test f all [] n read same = refl
-at-places keeps test f all (x ∷ xs) n read same =
-    ap (λ b. map (λ p. f (value_at all p)) (cond b (n ∷ filter keeps (range_with_len (n + 1) (length xs))) (filter keeps (range_with_len (n + 1) (length xs))))) here
-    ∙ by (test x) (at-places keeps test f all xs (n + 1) (λ k lt. ap (value_at all) (next k) ∙ read (suc k) (omega (arith, lt))) (λ k lt. ap keeps (next k) ∙ same (suc k) (omega (arith, lt))))
+-- ---- the items at the places that pass a test
+
+kept-all : (ys : List ℕ) → filter (λ s. true) ys ≡ ys
+kept-all [] = refl
+kept-all (y ∷ ys) = ap (λ l. y ∷ l) (kept-all ys)
+
+-- they are the items of a list that pass another, if the tests agree, and the items behind, if these all pass
+places-kept : (keeps test : ℕ → Bool) (all xs ys : List ℕ) (n : ℕ) → ((k : ℕ) → k < length (xs ++ ys) → value_at all (n + k) ≡ value_at (xs ++ ys) k)
+    → ((k : ℕ) → k < length xs → keeps (n + k) ≡ test (value_at xs k)) → ((k : ℕ) → k < length ys → keeps (n + (length xs + k)) ≡ true)
+    → map (value_at all) (filter keeps (range_with_len n (length (xs ++ ys)))) ≡ filter test xs ++ ys
+places-kept keeps test all [] [] n read same behind = refl
+places-kept keeps test all [] (y ∷ ys) n read same behind =
+    ap (λ b. map (value_at all) (cond b (n ∷ filter keeps (range_with_len (n + 1) (length ys))) (filter keeps (range_with_len (n + 1) (length ys))))) here
+    ∙ ap₂ (λ v l. v ∷ l) item
+    (places-kept keeps test all [] ys (n + 1) (λ k lt. ap (value_at all) (next k) ∙ read (suc k) (omega (arith, lt))) (λ k lt. absurd (omega (arith, lt))) (λ k lt. ap keeps (next k) ∙ behind (suc k) (omega (arith, lt))))
+  where
+    first : n + 0 ≡ n
+    first = omega arith
+
+    here : keeps n ≡ true
+    here = subst (λ k. keeps k ≡ true) first (behind 0 (omega arith))
+
+    item : value_at all n ≡ y
+    item = subst (λ k. value_at all k ≡ y) first (read 0 (omega arith))
+
+    next : (k : ℕ) → (n + 1) + k ≡ n + suc k
+    next k = omega arith
+places-kept keeps test all (x ∷ xs) ys n read same behind =
+    ap (λ b. map (value_at all) (cond b (n ∷ filter keeps (range_with_len (n + 1) (length (xs ++ ys)))) (filter keeps (range_with_len (n + 1) (length (xs ++ ys)))))) here
+    ∙ by (test x)
+    (places-kept keeps test all xs ys (n + 1) (λ k lt. ap (value_at all) (next k) ∙ read (suc k) (omega (arith, lt))) (λ k lt. ap keeps (next k) ∙ same (suc k) (omega (arith, lt))) (λ k lt. ap keeps (next (length xs + k)) ∙ behind k lt))
   where
     first : n + 0 ≡ n
     first = omega arith
@@ -36,41 +58,52 @@ at-places keeps test f all (x ∷ xs) n read same =
     next : (k : ℕ) → (n + 1) + k ≡ n + suc k
     next k = omega arith
 
-    by : (b : Bool) → map (λ p. f (value_at all p)) (filter keeps (range_with_len (n + 1) (length xs))) ≡ map f (filter test xs) → map (λ p. f (value_at all p)) (cond b (n ∷ filter keeps (range_with_len (n + 1) (length xs))) (filter keeps (range_with_len (n + 1) (length xs)))) ≡ map f (cond b (x ∷ filter test xs) (filter test xs))
-    by true rest = ap₂ (λ v l. f v ∷ l) item rest
+    by : (b : Bool) → map (value_at all) (filter keeps (range_with_len (n + 1) (length (xs ++ ys)))) ≡ filter test xs ++ ys
+        → map (value_at all) (cond b (n ∷ filter keeps (range_with_len (n + 1) (length (xs ++ ys)))) (filter keeps (range_with_len (n + 1) (length (xs ++ ys))))) ≡ cond b (x ∷ filter test xs) (filter test xs) ++ ys
+    by true rest = ap₂ (λ v l. v ∷ l) item rest
     by false rest = rest
 
-module _ (design : Ordered) (request : Request) (drivers viewers : List ℕ) (takers : AreTakers (plan_bridges design.circuit design.tree request) drivers viewers) where
-  abbrev those : Bridges
-  those = plan_bridges design.circuit design.tree request
+module _ (design : Ordered) (request : Request) where
+  abbrev b : Bridges
+  b = plan_bridges design.circuit design.tree request
 
-  abbrev ins : List ℕ
-  ins = design.circuit.ins
+  abbrev outputs : ℕ
+  outputs = output_count design
 
-  abbrev outputs : List ℕ
-  outputs = take (output_count design) design.circuit.outs
+  abbrev in_test : ℕ → Bool
+  in_test s = not (is_among (all_driven request.bridges) (path_at design.circuit.paths s))
+
+  abbrev out_test : ℕ → Bool
+  out_test s = not (is_among (all_seen request.bridges) (path_at design.circuit.paths s))
+
+  zero-more : (k : ℕ) → 0 + k ≡ k
+  zero-more k = omega arith
 
   -- the inputs that no bridge drives
-  pub open-ins : (f : ℕ → List ℕ) → map (λ p. f (value_at ins p)) (filter (is_open drivers) (range_with_len 0 (length ins))) ≡ map f (open_ins design.circuit request)
-  open-ins f =
-      at-places (is_open drivers) (λ s. not (is_among (all_driven request.bridges) (path_at design.circuit.paths s))) f ins ins 0 (λ k lt. ap (value_at ins) (zero-more k))
-      (λ k lt. ap (is_open drivers) (zero-more k) ∙ open-test (those.driver k) (value_at drivers k) (takers.driver k lt) ∙ undriven-is design.circuit design.tree request k)
-    where
-      zero-more : (k : ℕ) → 0 + k ≡ k
-      zero-more k = omega arith
+  pub ins-open : at_places (undriven (plan_bridges design.circuit design.tree request)) design.circuit.ins ≡ open_ins design.circuit request
+  ins-open =
+      let ins = design.circuit.ins in
+      ap (λ (l : List ℕ). map (value_at ins) (filter (undriven b) (range_with_len 0 (length l)))) (sym (append-nil ins))
+      ∙ places-kept (undriven b) in_test ins ins [] 0 (λ k lt. ap (value_at ins) (zero-more k) ∙ ap (λ (l : List ℕ). value_at l k) (sym (append-nil ins)))
+      (λ k lt. ap (undriven b) (zero-more k) ∙ undriven-is design.circuit design.tree request k) (λ k lt. absurd (omega (arith, lt)))
+      ∙ append-nil (filter in_test ins)
 
-  -- the outputs that no bridge sees
-  pub open-outs : (f : ℕ → List ℕ) → map (λ p. f (value_at outputs p)) (filter (is_open viewers) (range_with_len 0 (length outputs))) ≡ map f (open_outs design.circuit (output_count design) request)
-  open-outs f =
-      at-places (is_open viewers) (λ s. not (is_among (all_seen request.bridges) (path_at design.circuit.paths s))) f outputs outputs 0 (λ k lt. ap (value_at outputs) (zero-more k)) (λ k lt.
-      let many = length-take-le (output_count design) design.circuit.outs (omega arith) in
-      let low : k < output_count design = omega (arith, lt, many) in
-      let own : k < those.outs = omega (arith, low) in
-      ap (is_open viewers) (zero-more k) ∙ open-test (those.viewer k) (value_at viewers k) (takers.viewer k own) ∙ unseen-is design.circuit design.tree request k low
-      ∙ ap (λ s. not (is_among (all_seen request.bridges) (path_at design.circuit.paths s))) (sym (get_or-take (output_count design) design.circuit.outs k 0 low)))
-    where
-      zero-more : (k : ℕ) → 0 + k ≡ k
-      zero-more k = omega arith
+  -- the outputs that no bridge sees, and the stops behind them
+  pub outs-open : at_places (unseen (plan_bridges design.circuit design.tree request)) design.circuit.outs ≡ open_outs design.circuit (output_count design) request ++ drop (output_count design) design.circuit.outs
+  outs-open =
+      let outs = design.circuit.outs in
+      let front = take outputs outs in
+      let stops = drop outputs outs in
+      let whole = take-append-drop outputs outs in
+      let many = length-take-le outputs outs (omega arith) in
+      ap (λ (l : List ℕ). map (value_at outs) (filter (unseen b) (range_with_len 0 (length l)))) (sym whole)
+      ∙ places-kept (unseen b) out_test outs front stops 0 (λ k lt. ap (value_at outs) (zero-more k) ∙ ap (λ (l : List ℕ). value_at l k) (sym whole))
+      (λ k lt.
+      let low : k < outputs = omega (arith, lt, many) in
+      ap (unseen b) (zero-more k) ∙ unseen-is design.circuit design.tree request k low ∙ ap out_test (sym (get_or-take outputs outs k 0 low)))
+      (λ k lt. stop-unseen design.circuit design.tree request (0 + (length front + k)) (omega (arith, many)))
+
+-- ---- all names
 
 -- lists that are added one behind another to one name; the fourth and the fifth are one list of what they are to be
 pub names-joined : (hub : List ℕ) (a b c d e f : List (List ℕ)) (one two three four five six first : List (List ℕ)) → first ≡ hub ∷ [] → one ≡ first ++ a → two ≡ one ++ b → three ≡ two ++ c → four ≡ three ++ d → five ≡ four ++ e → six ≡ five ++ f → six ≡ hub ∷ (a ++ b ++ c ++ (d ++ e) ++ f)
@@ -83,37 +116,7 @@ pub names-same : (h hub : List ℕ) (a b c d e f units memories given taken stop
 names-same h hub a b c d e f units memories given taken stops entries p q r s t u v =
     ap₂ (λ x l. x ∷ l) p (ap₂ (λ x y. x ++ y) (ap₂ (λ x y. x ++ y) (ap₂ (λ x y. x ++ y) (ap₂ (λ x y. x ++ y) q r) s) (ap₂ (λ x y. x ++ y) t u)) v)
 
--- one place more, open or not
-pub open-next : (f : ℕ → List ℕ) (keeps : ℕ → Bool) (n : ℕ) (initial old new : List (List ℕ)) → old ≡ initial ++ map f (filter keeps (range_with_len 0 n)) → new ≡ old ++ (if keeps n then f n ∷ [] else []) → new ≡ initial ++ map f (filter keeps (range_with_len 0 (n + 1)))
-open-next f keeps n initial old new was made =
-    made ∙ ap (λ l. l ++ (if keeps n then f n ∷ [] else [])) was ∙ append_assoc initial (map f (filter keeps (range_with_len 0 n))) (if keeps n then f n ∷ [] else [])
-    ∙ ap (λ l. initial ++ l) (sym (ap (map f) (filter-more keeps n) ∙ map-append f (filter keeps (range_with_len 0 n)) (if keeps n then n ∷ [] else []) ∙ ap (λ l. map f (filter keeps (range_with_len 0 n)) ++ l) (by (keeps n))))
-  where
-    by : (b : Bool) → map f (if b then n ∷ [] else []) ≡ (if b then f n ∷ [] else [])
-    by true = refl
-    by false = refl
-
--- the lists of names by equal circuits, trees, ports and tables are those of the plan
-module _ (design : Ordered) (request : Request) (drivers viewers : List ℕ) (takers : AreTakers (plan_bridges design.circuit design.tree request) drivers viewers) (piece : FlatCircuit) (f : piece ≡ design.circuit) where
-  abbrev own : List (List ℕ)
-  own = design.circuit.paths
-
-  pub ins-named : (ins table : List ℕ) → ins ≡ piece.ins → table ≡ drivers
-      → map (λ p. codes "in:" ++ path_at piece.paths (value_at ins p)) (filter (is_open table) (range_with_len 0 (length ins))) ≡ map (λ s. codes "in:" ++ path_at own s) (open_ins design.circuit request)
-  ins-named ins table i t =
-      ap (λ (k : FlatCircuit). map (λ p. codes "in:" ++ path_at k.paths (value_at ins p)) (filter (is_open table) (range_with_len 0 (length ins)))) f
-      ∙ ap (λ (l : List ℕ). map (λ p. codes "in:" ++ path_at own (value_at l p)) (filter (is_open table) (range_with_len 0 (length l)))) (i ∙ ap (λ (k : FlatCircuit). k.ins) f)
-      ∙ ap (λ (l : List ℕ). map (λ p. codes "in:" ++ path_at own (value_at design.circuit.ins p)) (filter (is_open l) (range_with_len 0 (length design.circuit.ins)))) t
-      ∙ open-ins design request drivers viewers takers (λ s. codes "in:" ++ path_at own s)
-
-  pub outs-named : (some table : List ℕ) → some ≡ take (output_count design) design.circuit.outs → table ≡ viewers
-      → map (λ p. codes "out:" ++ path_at piece.paths (value_at some p)) (filter (is_open table) (range_with_len 0 (length some))) ≡ map (λ s. codes "out:" ++ path_at own s) (open_outs design.circuit (output_count design) request)
-  outs-named some table o t =
-      ap (λ (k : FlatCircuit). map (λ p. codes "out:" ++ path_at k.paths (value_at some p)) (filter (is_open table) (range_with_len 0 (length some)))) f
-      ∙ ap (λ (l : List ℕ). map (λ p. codes "out:" ++ path_at own (value_at l p)) (filter (is_open table) (range_with_len 0 (length l)))) o
-      ∙ ap (λ (l : List ℕ). map (λ p. codes "out:" ++ path_at own (value_at (take (output_count design) design.circuit.outs) p)) (filter (is_open l) (range_with_len 0 (length (take (output_count design) design.circuit.outs))))) t
-      ∙ open-outs design request drivers viewers takers (λ s. codes "out:" ++ path_at own s)
-
-  pub stops-named : (stops : List ℕ) → stops ≡ drop (output_count design) design.circuit.outs
-      → map (λ s. codes "halt:" ++ path_at piece.paths s) stops ≡ map (λ s. codes "halt:" ++ path_at own s) (drop (output_count design) design.circuit.outs)
-  stops-named stops o = ap (λ (k : FlatCircuit). map (λ s. codes "halt:" ++ path_at k.paths s) stops) f ∙ ap (map (λ s. codes "halt:" ++ path_at own s)) o
+-- the lists of names by equal circuits and signals
+module _ (piece circuit : FlatCircuit) (same : piece ≡ circuit) where
+  pub ports-named : (word : List ℕ) (some signals : List ℕ) → some ≡ signals → map (λ s. word ++ path_at piece.paths s) some ≡ map (λ s. word ++ path_at circuit.paths s) signals
+  ports-named word some signals is = ap (λ (k : FlatCircuit). map (λ s. word ++ path_at k.paths s) some) same ∙ ap (map (λ s. word ++ path_at circuit.paths s)) is

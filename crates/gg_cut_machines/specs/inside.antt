@@ -1,4 +1,4 @@
 -- Definitions that no promise of the program reaches: for single functions, and for proofs.
 pub mod Hosts
 pub mod Drafted
-pub mod Seats
+pub mod Modelled

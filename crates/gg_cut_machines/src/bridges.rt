@@ -5,12 +5,11 @@ ghost use Rattle.gg_cut_plan.specs.Models.{model_names};
 ghost use Rattle.gg_flat_tree.specs.Tree.{path_at};
 ghost use Rattle.gg_cut_plan.specs.Bridges.{model_named};
 ghost use Rattle.gg_cut_plan.specs.Plan.{port_place, wire_at};
-ghost use Rattle.gg_cut_machines.specs.inside.Seats.{IsModelled};
+ghost use Rattle.gg_cut_machines.specs.inside.Modelled.{IsModelled};
 
-use crate::ports::put_ports;
 use gg_bits::{Ids, Name};
-use gg_cut_parts::set_named;
 use gg_cut_plan::{BridgeBody, Models, Wire};
+use gg_cut_split::{put_ports, set_named};
 use gg_flat::Piece;
 use gg_partfile::BridgeEntry;
 use std::alloc::{AllocError, Global};

@@ -164,7 +164,7 @@ fn firsts_before(alloc: Global, leaders: &[u32]) -> Result<Vec<u32>, AllocError>
 }
 
 // 1 if a fact holds, otherwise 0.
-pub(crate) fn one_if(holds: bool) -> u32
+fn one_if(holds: bool) -> u32
     ensures one { result ≡ (if holds then 1 else 0) }
     ensures small { result ≤ 1 }
 {

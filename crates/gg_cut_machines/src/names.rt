@@ -1,14 +1,9 @@
 //! The names of the machines.
-ghost use Rattle.std.specs.Prelude.{◌≡◌, ◌<◌, ◌≤◌, [], ◌∷◌, if◌then◌else◌, length, map, filter, codes, ◌++◌, IfOk, OnOk};
-ghost use Rattle.std.specs.List.{range_with_len};
-ghost use Rattle.gg_flat.specs.Line.{value_at};
+ghost use Rattle.std.specs.Prelude.{◌≡◌, map, codes, ◌++◌, IfOk, OnOk};
 ghost use Rattle.gg_flat_tree.specs.Tree.{path_at};
 ghost use Rattle.gg_cut_plan.specs.Plan.{machine_names};
 ghost use Rattle.gg_cut_parts.specs.inside.Draft.{IsDraft};
-ghost use Rattle.gg_cut_machines.specs.inside.Drafted.{AreDraftTakers};
-ghost use Rattle.gg_cut_machines.specs.inside.Seats.{is_open};
 
-use crate::seats::Takers;
 use gg_bits::Name;
 use gg_cut_parts::{Draft, signal_name};
 use gg_flat::Piece;
@@ -21,13 +16,8 @@ use std::alloc::{AllocError, Global};
 // # Errors
 //
 // Returns `AllocError` if an allocation fails.
-pub(crate) fn machine_names(
-    alloc: Global,
-    draft: &Draft,
-    takers: &Takers,
-) -> Result<Vec<Name>, AllocError>
-    requires draft { IsDraft draft.now }
-    requires takers { AreDraftTakers draft.now takers.now }
+pub(crate) fn machine_names(alloc: Global, draft: &Draft) -> Result<Vec<Name>, AllocError>
+    requires { IsDraft draft.now }
     ensures { IfOk result (λ names. names.items ≡ machine_names draft.now.design.now draft.now.request.now draft.now.listed) }
 {
     let piece = draft.design.piece();
@@ -35,24 +25,18 @@ pub(crate) fn machine_names(
     let units = draft.request.units.as_slice();
     let memories = draft.listed.memories.as_slice();
     let entries = draft.request.bridges.as_slice();
-    let ins = piece.ins();
-    let outs = piece.outs();
+    let ins = draft.ends.ins.as_slice();
+    let outs = draft.ends.outs.as_slice();
+    // the stops come after the outputs
     let outputs = outs.len().saturating_sub(tree.stops().len());
     let hub = Name::from_str(alloc, "hub:")?;
     let mut names = Vec::new(alloc);
     names.push(hub)?;
     push_units(units, &mut names)?;
     push_memories(alloc, tree, memories, &mut names)?;
-    push_open(alloc, "in:", piece, ins, &takers.drivers, &mut names)?;
-    push_open(
-        alloc,
-        "out:",
-        piece,
-        &outs[..outputs],
-        &takers.viewers,
-        &mut names,
-    )?;
-    push_stops(alloc, piece, &outs[outputs..], &mut names)?;
+    push_ports(alloc, "in:", piece, ins, &mut names)?;
+    push_ports(alloc, "out:", piece, &outs[..outputs], &mut names)?;
+    push_ports(alloc, "halt:", piece, &outs[outputs..], &mut names)?;
     push_bridges(alloc, entries, &mut names)?;
     Ok(names)
 }
@@ -82,60 +66,18 @@ fn push_memories(
     Ok(())
 }
 
-// Adds a name for each of these signals that no bridge has, by a table of the bridges at their places.
-fn push_open(
+// Adds the names of ports: a word followed by the path of each of these signals.
+fn push_ports(
     alloc: Global,
     word: &str,
     piece: &Piece,
     signals: &[u32],
-    takers: &[u32],
     names: &mut Vec<Name>,
 ) -> Result<(), AllocError>
-    requires { length signals.now ≤ length takers.now }
-    ensures { OnOk result (names.new.items ≡ names.old.items
-        ++ map (λ p. word.now ++ path_at piece.now.paths (value_at signals.now p)) (filter (is_open takers.now) (range_with_len 0 (length signals.now)))) }
+    ensures { OnOk result (names.new.items ≡ names.old.items ++ map (λ s. word.now ++ path_at piece.now.paths s) signals.now) }
 {
-    for place in 0..signals.len() {
-        push_if(
-            alloc,
-            word,
-            piece,
-            signals[place],
-            takers[place] == 0,
-            names,
-        )?;
-    }
-    Ok(())
-}
-
-// Adds the name of a signal's port, if it is chosen.
-fn push_if(
-    alloc: Global,
-    word: &str,
-    piece: &Piece,
-    signal: u32,
-    chosen: bool,
-    names: &mut Vec<Name>,
-) -> Result<(), AllocError>
-    ensures { OnOk result (names.new.items ≡ names.old.items ++ (if chosen then (word.now ++ path_at piece.now.paths signal) ∷ [] else [])) }
-{
-    if chosen {
-        names.push(port_name(alloc, word, piece, signal)?)?;
-    }
-    Ok(())
-}
-
-// Adds the names of stops.
-fn push_stops(
-    alloc: Global,
-    piece: &Piece,
-    stops: &[u32],
-    names: &mut Vec<Name>,
-) -> Result<(), AllocError>
-    ensures { OnOk result (names.new.items ≡ names.old.items ++ map (λ s. codes "halt:" ++ path_at piece.now.paths s) stops.now) }
-{
-    for stop in stops {
-        names.push(port_name(alloc, "halt:", piece, *stop)?)?;
+    for signal in signals {
+        names.push(port_name(alloc, word, piece, *signal)?)?;
     }
     Ok(())
 }

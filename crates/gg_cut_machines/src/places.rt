@@ -1,11 +1,10 @@
 //! What the machines of a plan have, by their numbers: names, hosts and channels.
 ghost use Rattle.std.specs.Prelude.{◌≡◌, ◌<◌, [], length, slice_index_or, IfOk};
 ghost use Rattle.gg_cut_parts.specs.inside.Draft.{IsDraft};
-ghost use Rattle.gg_cut_machines.specs.inside.Drafted.{AreDraftPlaces, AreDraftSeats};
+ghost use Rattle.gg_cut_machines.specs.inside.Drafted.{AreDraftPlaces};
 
 use crate::hosts::{Hosts, hosts_of};
 use crate::names::machine_names;
-use crate::seats::Seats;
 use gg_bits::Name;
 use gg_cut_parts::Draft;
 use gg_cut_split::{Sides, sides_of};
@@ -39,14 +38,14 @@ impl Drop for Places {
 /// # Errors
 ///
 /// Returns `AllocError` if an allocation fails.
-pub fn places_of(alloc: Global, draft: &Draft, seats: &Seats) -> Result<Places, AllocError>
-    requires draft { IsDraft draft.now }
-    requires seats { AreDraftSeats draft.now seats.now }
+pub fn places_of(alloc: Global, draft: &Draft) -> Result<Places, AllocError>
+    requires { IsDraft draft.now }
     ensures { IfOk result (λ places. AreDraftPlaces draft.now places) }
 {
-    let names = machine_names(alloc, draft, &seats.takers)?;
-    let hosts = hosts_of(alloc, draft, seats.end)?;
-    let sides = sides_of(alloc, &seats.wires, seats.end)?;
+    let count = draft.numbering().count();
+    let names = machine_names(alloc, draft)?;
+    let hosts = hosts_of(alloc, draft, count)?;
+    let sides = sides_of(alloc, draft.wires(), count)?;
     Ok(Places {
         names,
         hosts,

@@ -166,9 +166,9 @@ module _ (design : Ordered) (listed : Listed) (keeps : KeepsToTree design.circui
   made-inside s (inl (known, owner, inner)) =
       let at = innermost design.circuit design.tree keeps.fitting s known in
       inner-held design.circuit design.tree listed keeps.fitting keeps.scoped apart u lt at.place s at.is
-      (sym (owner-signal design.circuit design.tree listed keeps.fitting keeps.scoped apart at.place s at.is (inner-plain design.circuit design.tree listed keeps.fitting keeps.scoped apart s inner)) ∙ owner)
+      (sym (owner-signal design.circuit design.tree listed keeps.fitting keeps.scoped apart at.place s at.is (inner-plain design.circuit design.tree listed [] keeps.fitting keeps.scoped apart s inner)) ∙ owner)
   made-inside s (inr given) =
-      let w = given-out design.circuit design.tree listed (suc u) s given in
+      let w = given-out design.circuit design.tree listed [] (suc u) s given in
       at-held design.circuit design.tree listed keeps.fitting keeps.scoped apart u lt s
       (subst (IsAtUnit design.circuit design.tree listed u) w.is
       (end-at design.circuit design.tree listed keeps.fitting keeps.scoped apart u lt w.wire w.among (inl (eqb-true w.wire.producer (suc u) w.passes))))

@@ -48,10 +48,10 @@ module _ (machine : MachineDraft) (known : IsMachineDraft machine) (sound : IsDe
   to = again_at design listed m n
 
   routed : IsUnitRouted design listed hub m
-  routed = let some = again.units.0 in draft-routed machine.draft.now known.draft sound m (λ z. absurd (omega (arith, some, z)))
+  routed = let some = again.units.0 in let low = again.units.1 in draft-routed machine.draft.now known.draft sound m (λ z. absurd (omega (arith, some, z))) (omega (arith, low))
 
   there : IsUnitRouted design listed hub n
-  there = let some = again.units.2 in draft-routed machine.draft.now known.draft sound n (λ z. absurd (omega (arith, some, z)))
+  there = let some = again.units.2 in let low = again.units.3 in draft-routed machine.draft.now known.draft sound n (λ z. absurd (omega (arith, some, z))) (omega (arith, low))
 
   share : IsUnitShare design listed n signals banks
   share = let low = again.units.3 in draft-share machine known there (omega (arith, low))

@@ -20,8 +20,8 @@ module _ (draft : Draft) (is : IsDraft draft) where
   draft-units = units-count draft.design.now draft.request.now draft.listed is.listed
 
   -- a unit takes by the routed channels what it took before, and gives by the same signals
-  pub draft-routed : IsDesign draft.design.now → (m : ℕ) → m ≢ 0 → IsUnitRouted draft.design.now draft.listed (draft_hub draft) m
-  draft-routed design m other = plan-unit-routed draft.design.now draft.request.now draft.listed is.listed design is.keeps is.apart m other
+  pub draft-routed : IsDesign draft.design.now → (m : ℕ) → m ≢ 0 → m < first_source draft.listed → IsUnitRouted draft.design.now draft.listed (draft_hub draft) m
+  draft-routed design m other low = plan-unit-routed draft.design.now draft.request.now draft.listed is.listed design is.keeps is.apart m other low
 
 -- what a unit of a draft has
 pub draft-share : (machine : MachineDraft) → IsMachineDraft machine → IsUnitRouted machine.draft.now.design.now machine.draft.now.listed (draft_hub machine.draft.now) machine.number → machine.number < first_source machine.draft.now.listed

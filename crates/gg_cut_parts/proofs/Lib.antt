@@ -1,4 +1,3 @@
-pub mod CapacityLemmas
 pub mod DraftFollowerLemmas
 pub mod DraftLemmas
 pub mod FollowerLemmas

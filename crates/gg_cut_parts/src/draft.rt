@@ -1,16 +1,14 @@
 //! `Draft`: a cut in the making.
 ghost use Rattle.std.specs.Prelude.{◌≡◌};
-ghost use Rattle.gg_cut_plan.specs.inside.Machines.{numbering_of};
-ghost use Rattle.gg_cut_parts.specs.inside.Draft.{IsDraft};
 
 use gg_cut_plan::{Listed, Models, Numbering, Wire};
 use gg_cut_routes::Channels;
-use gg_cut_split::Split;
+use gg_cut_split::{Ends, Split};
 use gg_order::Design;
 use gg_partfile::Request;
 
-/// A cut in the making: what is cut, by a request without a fault, what the request lists, what each machine has before the routing, and the channels
-/// after it.
+/// A cut in the making: what is cut, by a request without a fault, what the request lists, the machines at the ports of the top, what each machine has
+/// before the routing, and the channels after it.
 pub struct Draft<'a> {
     /// What is cut.
     pub design: &'a Design,
@@ -22,6 +20,8 @@ pub struct Draft<'a> {
     pub default_capacity: u32,
     /// What the request lists.
     pub listed: Listed,
+    /// The numbers of the machines, and the machines at the ports of the top.
+    pub ends: Ends,
     /// The channels before the routing, and what each machine has by them.
     pub split: Split,
     /// The channels after the routing, and what leaves.
@@ -36,22 +36,23 @@ impl<'a> Drop for Draft<'a> {
             models: _,
             default_capacity: _,
             listed,
+            ends,
             split,
             routed,
         } = self;
         drop(listed);
+        drop(ends);
         drop(split);
         drop(routed);
     }
 }
 
 impl<'a> Draft<'a> {
-    /// The numbers of the machines, as if there were no bridges.
+    /// The numbers of the machines.
     pub fn numbering(&self) -> Numbering
-        requires { IsDraft self.now }
-        ensures { result ≡ numbering_of self.now.design.now.circuit self.now.listed }
+        ensures { result ≡ self.now.ends.numbering }
     {
-        Numbering::of(self.design.piece(), &self.listed)
+        self.ends.numbering
     }
 
     /// The channels after the routing.
@@ -71,9 +72,11 @@ impl<'a> Draft<'a> {
             models: _,
             default_capacity: _,
             listed,
+            ends,
             split,
             routed,
         } = self;
+        drop(ends);
         drop(split);
         drop(routed);
         listed

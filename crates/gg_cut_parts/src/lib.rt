@@ -36,7 +36,7 @@ mod whole;
 
 pub use domains::{Domains, domains_of};
 pub use draft::Draft;
-pub use lists::{filled, numbers, picked, set_named};
+pub use lists::{numbers, picked};
 pub use machine_draft::MachineDraft;
 pub use moved::moved_part;
 pub use parts::cut_part;

@@ -13,11 +13,12 @@ ghost use Rattle.gg_cut_parts.specs.inside.Draft.{draft_hub, IsDraft, IsDraftPar
 ghost use Rattle.gg_cut_parts.specs.inside.MovedPart.{IsFollower, HoldAgain, HasAgain};
 
 use crate::draft::Draft;
-use crate::lists::{filled, picked};
+use crate::lists::picked;
 use crate::machine_draft::MachineDraft;
 use crate::moved_piece::moved_piece;
 use crate::parts::givens;
 use gg_bits::{Ids, copied};
+use gg_cut_split::filled;
 use gg_flat::{Driver, Piece};
 use gg_flat_tree::ClockNumbers;
 use gg_part::Part;

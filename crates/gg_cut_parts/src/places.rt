@@ -3,7 +3,8 @@ ghost use Rattle.std.specs.Prelude.{◌≡◌, ◌<◌, ◌≤◌, ◌^◌, leng
 ghost use Rattle.gg_flat.specs.Line.{value_at};
 ghost use Rattle.gg_part.specs.inside.Numbers.{ArePlaces};
 
-use crate::lists::{filled, picked};
+use crate::lists::picked;
+use gg_cut_split::filled;
 use std::alloc::{AllocError, Global};
 
 // Places of these numbers in a list of numbers below `count`.

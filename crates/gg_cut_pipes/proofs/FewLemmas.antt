@@ -1,5 +1,5 @@
 -- What is numbered has few numbers: the machines of a plan, and the registers and the pipes of its reference circuit.
-use Rattle.std.proofs.Common.{◌≡◌, ◌≢◌, ℕ, ◌+◌, ◌<◌, ◌≤◌, List, length, map, get_or, sym, ◌∙◌, ap, subst, arith}
+use Rattle.std.proofs.Common.{◌≡◌, ◌≢◌, ℕ, ◌+◌, ◌<◌, ◌≤◌, List, [], length, map, get_or, sym, ◌∙◌, ap, subst, arith}
 use Rattle.std.specs.Prelude.{◌^◌, All, AllPairs}
 use Rattle.std.specs.List.{range_with_len}
 use Rattle.std.proofs.lemmas.List.{length-map}
@@ -9,10 +9,12 @@ use Rattle.gg_flat.specs.declared.piece.Driver.TheVariants.{Held}
 use Rattle.gg_flat.specs.Circuit.{FlatCircuit, driver_at}
 use Rattle.gg_order.specs.Design.{Ordered, IsDesign}
 use Rattle.gg_part.proofs.FrameLemmas.{length-once}
-use Rattle.gg_cut_plan.specs.inside.Machines.{machine_count}
+use Rattle.gg_cut_plan.specs.Listed.{listed_of}
+use Rattle.gg_cut_plan.specs.Ports.{machine_end, ports_of}
+use Rattle.gg_cut_plan.proofs.PortLemmas.{end-plain}
 use Rattle.gg_cut_plan.specs.declared.listed.Listed.{Listed}
 use Rattle.gg_cut_plan.specs.declared.plan.Plan.{Plan}
-use Rattle.gg_cut_split.proofs.ClosedLemmas.FaultlessLemmas.{faultless-few}
+use Rattle.gg_cut_split.proofs.ClosedLemmas.FaultlessLemmas.{faultless-apart, faultless-few}
 use Rattle.gg_cut_split.proofs.ClosedLemmas.ListLemmas.{AllPairs-map}
 use Rattle.gg_cut_routes.proofs.FewLemmas as routed
 use Rattle.gg_cut_routes.proofs.RoutedLemmas.{plan-routed}
@@ -22,10 +24,13 @@ use Rattle.gg_cut_pipes.specs.inside.CanPipe.{CanPipe}
 use Rattle.gg_cut_pipes.specs.inside.Tables.{piped_signals}
 use Rattle.gg_cut_pipes.proofs.PipingLemmas.{few-pipes}
 
-pub few-machines : (design : Ordered) (plan : Plan) → IsDesign design → CanPipe design plan → machine_count design.circuit plan.listed ≤ 33025
+-- each top input gives a channel of the plan, and each out-signal is taken by one, whichever machines are at them
+pub few-machines : (design : Ordered) (plan : Plan) → IsDesign design → CanPipe design plan → machine_end (ports_of design.circuit design.tree plan.listed []) ≤ 33025
 few-machines design plan is can =
-    subst (λ (l : Listed). machine_count design.circuit l ≤ 33025) (sym can.is.listed)
-    (routed.few-machines design can.request (plan-routed design can.request is can.keeps can.none) (faultless-few design can.request can.none))
+    subst (λ (l : Listed). machine_end (ports_of design.circuit design.tree l []) ≤ 33025) (sym can.is.listed)
+    (let few = faultless-few design can.request can.none in
+    let ports = routed.few-ports design can.request is can.keeps (faultless-apart design can.request can.none can.keeps.fitting) (plan-routed design can.request is can.keeps can.none) in
+    omega (arith, end-plain design.circuit design.tree (listed_of design.tree can.request), few.units, few.channels, ports.0, ports.1))
 
 -- if each register is that of a signal, there are at most as many registers as signals
 pub few-registers : (circuit : FlatCircuit) → AllHeld circuit → length circuit.registers ≤ length circuit.signals

@@ -1,5 +1,5 @@
 -- The tables of a plan make its reference circuit.
-use Rattle.std.proofs.Common.{◌≡◌, ◌≢◌, ℕ, zero, suc, ◌+◌, ◌<◌, ◌⊎◌, List, ◌++◌, Bool, true, false, Option, Some, None, codes, length, map, get_or, refl, sym, ◌∙◌, ap, subst, inl, inr, eq-eqb, arith}
+use Rattle.std.proofs.Common.{◌≡◌, ◌≢◌, ℕ, zero, suc, ◌+◌, ◌<◌, ◌⊎◌, List, [], ◌++◌, Bool, true, false, Option, Some, None, codes, length, map, get_or, refl, sym, ◌∙◌, ap, subst, inl, inr, eq-eqb, arith}
 use Rattle.std.specs.Prelude.{◌&&◌, ◌==◌, ◌^◌, All, AllPairs, Contains, filter, option_map, unwrap_or, replicate}
 use Rattle.std.specs.List.{list_any, range_with_len}
 use Rattle.std.proofs.lemmas.Bool.{and_from, and_parts, cases_Bool, eqb-true}
@@ -12,7 +12,7 @@ use Rattle.gg_flat.specs.declared.piece.Driver.TheVariants.{Input, Held}
 use Rattle.gg_flat.specs.Circuit.{FlatCircuit, driver_at}
 use Rattle.gg_flat.specs.Line.{value_at}
 use Rattle.gg_flat_tree.specs.declared.tree.MemoryInstance.{MemoryInstance}
-use Rattle.gg_flat_tree.specs.Tree.{InstanceTree, memory_at, path_at}
+use Rattle.gg_flat_tree.specs.Tree.{path_at}
 use Rattle.gg_flat.specs.WellFormed.{MayDrive}
 use Rattle.gg_flat.proofs.ListLemmas.{Contains-filter, Contains-map, filter-cases, in-range}
 use Rattle.gg_order.specs.Design.{Ordered, IsDesign}
@@ -21,23 +21,18 @@ use Rattle.gg_cut_plan.specs.declared.plan.Channel.{Channel}
 use Rattle.gg_cut_plan.specs.declared.plan.Plan.{Plan}
 use Rattle.gg_cut_plan.specs.declared.wires.Wire.{Wire}
 use Rattle.gg_cut_plan.specs.Channels.{wire, wires_of}
-use Rattle.gg_cut_plan.specs.Listed.{first_place, listed_of, owner_of, owner_of_instance, memory_or, memory_owner}
-use Rattle.gg_cut_plan.specs.Machines.{first_source}
-use Rattle.gg_cut_plan.specs.Seated.{Bridges, seat_of, seated_wire, plan_bridges, plan_wires}
+use Rattle.gg_cut_plan.specs.Listed.{first_place, listed_of, owner_of, memory_owner}
 use Rattle.gg_cut_plan.specs.Plan.{wire_at, IsInner}
-use Rattle.gg_cut_plan.specs.Direct.{Hub, routes, plan_hub, is_piped, is_driven}
+use Rattle.gg_cut_plan.specs.Direct.{Hub, hub_of, routes, plan_hub, is_piped, plan_wires}
 use Rattle.gg_cut_plan.proofs.PathLemmas.{first_place-Some}
 use Rattle.gg_cut_plan.proofs.OriginLemmas.{any-finds, finds-any, clash}
-use Rattle.gg_cut_plan.proofs.WireLemmas.{unit_or_hub-below}
-use Rattle.gg_cut_reference.proofs.FittingLemmas.LowLemmas.{seat-back}
-use Rattle.gg_cut_reference.proofs.FittingLemmas.SeatedLemmas.{seat-low}
-use Rattle.gg_cut_reference.proofs.FittingLemmas.WireLemmas.{same-test}
 use Rattle.gg_cut_split.specs.inside.Apart.{AreApart}
 use Rattle.gg_cut_split.proofs.ClosedLemmas.FaultlessLemmas.{faultless-apart}
 use Rattle.gg_cut_split.proofs.ClosedLemmas.ListLemmas.{AllPairs-map, map-cases}
 use Rattle.gg_cut_split.proofs.ClosedLemmas.PlaceLemmas.{same-bool}
 use Rattle.gg_cut_routes.proofs.ChoiceLemmas.{any-wire}
 use Rattle.gg_cut_routes.proofs.RouteLemmas.{IsBase, routes-known, routes-once}
+use Rattle.gg_cut_routes.proofs.PlanLemmas.{plan-base}
 use Rattle.gg_cut_routes.proofs.RoutedLemmas.{routed-base}
 use Rattle.gg_cut_split.specs.declared.owned.Owned.{Owned}
 use Rattle.gg_cut_pipes.specs.declared.tables.Tables.{Tables}
@@ -47,7 +42,8 @@ use Rattle.gg_cut_reference.specs.inside.Made.{views_in}
 use Rattle.gg_cut_pipes.specs.inside.CanPipe.{CanPipe}
 use Rattle.gg_cut_pipes.specs.inside.Tables.{views_by, seen_in, AreOwned, AreTables, CanFill, IsFilled, piped_places, piped_signals, piped_takers}
 use Rattle.gg_cut_reference.proofs.HolderLemmas.{holder-is, holds-is, keeper-is}
-use Rattle.gg_cut_reference.proofs.OneLemmas.{not-input, maker-low}
+use Rattle.gg_cut_reference.proofs.OneLemmas.{not-input}
+use Rattle.gg_cut_reference.proofs.EntryLemmas.{maker-same}
 use Rattle.gg_cut_reference.proofs.SeenLemmas.{pipes-known, pipes-once}
 use Rattle.gg_cut_reference.proofs.PlanLemmas.{plan-formed}
 use Rattle.gg_cut_pipes.proofs.TableLemmas.{chosen-agree, few-among, piped_routes, kept-is, seen-is, makers-are}
@@ -57,18 +53,6 @@ repeated : (n x r : ℕ) → r < n → value_at (replicate n x) r ≡ x
 repeated zero x r lt = absurd (omega (arith, lt))
 repeated (suc n) x zero lt = refl
 repeated (suc n) x (suc r) lt = repeated n x r (omega (arith, lt))
-
--- a listed memory's machine, or that of the instance that has the memory, is before the first source
-memory-low : (tree : InstanceTree) (listed : Listed) (place : ℕ) → memory_owner tree listed place < first_source listed
-memory-low tree listed place = by (first_place (λ j. j == place) listed.memories) refl
-  where
-    by : (found : Option ℕ) → first_place (λ j. j == place) listed.memories ≡ found → memory_or (length listed.units) (owner_of_instance tree listed.units (memory_at tree place).instance) found < first_source listed
-    by None e = let low = unit_or_hub-below tree listed.units (memory_at tree place).instance in omega (arith, low)
-    by (Some i) e = let at = first_place-Some (λ j. j == place) listed.memories i e in omega (arith, at.within)
-
--- a machine before the first source has its own number in the plan, and no other has that
-seat-low-is : (b : Bridges) (m n : ℕ) → m < b.first → (seat_of b n == m) ≡ (n == m)
-seat-low-is b m n low = same-test (seat_of b n) m n m (seat-back b m n low) (λ e. ap (seat_of b) e ∙ seat-low b m low)
 
 -- the signals and the pipes are few
 pub few-pipes : (design : Ordered) (plan : Plan) (can : CanPipe design plan) → length design.circuit.signals + length (piped_signals (length design.circuit.signals) plan.channels) < 2 ^ 32
@@ -90,9 +74,6 @@ module _ (design : Ordered) (plan : Plan) (is : IsDesign design) (can : CanPipe 
   abbrev listed : Listed
   listed = listed_of design.tree can.request
 
-  abbrev bridges : Bridges
-  bridges = plan_bridges design.circuit design.tree can.request
-
   base : IsBase (plan_hub design.circuit design.tree can.request)
   base = routed-base design can.request is can.keeps can.none
 
@@ -102,11 +83,11 @@ module _ (design : Ordered) (plan : Plan) (is : IsDesign design) (can : CanPipe 
   -- ---- channels
 
   total : length plan.channels ≡ length (routes hub)
-  total = can.is.channel_total ∙ length-map (routes hub) (seated_wire bridges)
+  total = can.is.channel_total
 
-  -- a channel of the plan is one of the cut, between the machines' numbers in the plan
-  wires-at : (c : ℕ) (w : Wire) → c < length plan.channels → wire_at (plan_wires circuit design.tree can.request) c ≡ seated_wire bridges (get_or (routes hub) c w)
-  wires-at c w lt = get_or-map (seated_wire bridges) (routes hub) c w (wire 0 0 0) (omega (arith, lt, total))
+  -- the channel at a place
+  wires-at : (c : ℕ) (w : Wire) → c < length plan.channels → wire_at (plan_wires circuit design.tree can.request) c ≡ get_or (routes hub) c w
+  wires-at c w lt = get_or_default (routes hub) c (wire 0 0 0) w (omega (arith, lt, total))
 
   -- ---- pipes
 
@@ -115,9 +96,9 @@ module _ (design : Ordered) (plan : Plan) (is : IsDesign design) (can : CanPipe 
       chosen-agree (λ (channel : Channel). channel.signal) (λ (w : Wire). w.signal) (λ (channel : Channel). channel.pipe) (λ (w : Wire). hub.piped w.signal) plan.channels (routes hub) total
       (λ c x w lt. let at = can.is.channel c x lt in let same = wires-at c w lt in (at.signal ∙ ap (λ (v : Wire). v.signal) same, at.pipe ∙ ap (λ (v : Wire). hub.piped v.signal) same))
 
-  pub takers-are : piped_takers plan.channels ≡ map (λ (w : Wire). seat_of (plan_bridges design.circuit design.tree can.request) w.consumer) (piped_routes (plan_hub design.circuit design.tree can.request))
+  pub takers-are : piped_takers plan.channels ≡ map (λ (w : Wire). w.consumer) (piped_routes (plan_hub design.circuit design.tree can.request))
   takers-are =
-      chosen-agree (λ (channel : Channel). channel.consumer) (λ (w : Wire). seat_of bridges w.consumer) (λ (channel : Channel). channel.pipe) (λ (w : Wire). hub.piped w.signal) plan.channels (routes hub) total
+      chosen-agree (λ (channel : Channel). channel.consumer) (λ (w : Wire). w.consumer) (λ (channel : Channel). channel.pipe) (λ (w : Wire). hub.piped w.signal) plan.channels (routes hub) total
       (λ c x w lt. let at = can.is.channel c x lt in let same = wires-at c w lt in (at.consumer ∙ ap (λ (v : Wire). v.consumer) same, at.pipe ∙ ap (λ (v : Wire). hub.piped v.signal) same))
 
   pub pipes-are : piped_signals (length design.circuit.signals) plan.channels ≡ pipes_of (plan_hub design.circuit design.tree can.request)
@@ -168,8 +149,15 @@ module _ (design : Ordered) (plan : Plan) (is : IsDesign design) (can : CanPipe 
       (plan-formed design can.request is can.keeps can.held can.none can.fresh).distinct
 
   module _ (owned : Owned) (owns : AreOwned design plan.listed owned) where
-    wires-are : owned.wires ≡ hub.base
-    wires-are = owns.wires ∙ ap (wires_of circuit design.tree) can.is.listed
+    -- the channels before, without bridges
+    abbrev plain : Hub
+    plain = hub_of design.circuit design.tree (listed_of design.tree can.request) (is_piped design.circuit can.request) [] can.request.direct
+
+    own : IsBase (hub_of design.circuit design.tree (listed_of design.tree can.request) (is_piped design.circuit can.request) [] can.request.direct)
+    own = plan-base design listed (is_piped design.circuit can.request) [] can.request.direct is can.keeps (faultless-apart design can.request can.none can.keeps.fitting)
+
+    wires-are : owned.wires ≡ wires_of design.circuit design.tree (listed_of design.tree can.request) []
+    wires-are = owns.wires ∙ ap (λ (l : Listed). wires_of circuit design.tree l []) can.is.listed
 
     pub can-fill : CanFill design.circuit plan.channels (piped_signals (length design.circuit.signals) plan.channels) owned
     can-fill =
@@ -181,31 +169,30 @@ module _ (design : Ordered) (plan : Plan) (is : IsDesign design) (can : CanPipe 
           few = few-pipes design plan can;
           held = can.held;
           registers = λ s r lt held. (subst (MayDrive circuit s) held (is.formed.drivers s lt)).0;
-          wires = subst (λ n. All (λ (w : Wire). w.signal < n) owned.wires) (sym owns.count) (subst (All (λ (w : Wire). w.signal < length circuit.signals)) (sym wires-are) base.known);
-          wires_once = subst (AllPairs (λ (v w : Wire). v.signal ≢ w.signal)) (sym wires-are) base.once;
+          wires = subst (λ n. All (λ (w : Wire). w.signal < n) owned.wires) (sym owns.count) (subst (All (λ (w : Wire). w.signal < length circuit.signals)) (sym wires-are) own.known);
+          wires_once = subst (AllPairs (λ (v w : Wire). v.signal ≢ w.signal)) (sym wires-are) own.once;
         }
 
     module _ (tables : Tables) (are : AreTables design.circuit plan.channels (piped_signals (length design.circuit.signals) plan.channels) owned tables) where
       pipes : IsFilled (pipes_of hub) (range_with_len (length circuit.signals) (length (pipes_of hub))) (length (pipes_of hub)) (replicate (length circuit.signals) 0) tables.pipes
       pipes = subst (λ (l : List ℕ). IsFilled l (range_with_len (length circuit.signals) (length l)) (length l) (replicate (length circuit.signals) 0) tables.pipes) pipes-are are.pipes
 
-      takers : IsFilled (map (λ (r : Wire). r.signal) (piped_routes hub)) (map (λ (r : Wire). seat_of bridges r.consumer) (piped_routes hub)) (length (map (λ (r : Wire). r.signal) (piped_routes hub))) (replicate (length circuit.signals) 0) tables.takers
+      takers : IsFilled (map (λ (r : Wire). r.signal) (piped_routes hub)) (map (λ (r : Wire). r.consumer) (piped_routes hub)) (length (map (λ (r : Wire). r.signal) (piped_routes hub))) (replicate (length circuit.signals) 0) tables.takers
       takers =
-          subst (λ (l : List ℕ). IsFilled l (map (λ (r : Wire). seat_of bridges r.consumer) (piped_routes hub)) (length l) (replicate (length circuit.signals) 0) tables.takers) places-are
+          subst (λ (l : List ℕ). IsFilled l (map (λ (r : Wire). r.consumer) (piped_routes hub)) (length l) (replicate (length circuit.signals) 0) tables.takers) places-are
           (subst (λ (l : List ℕ). IsFilled (piped_places plan.channels) l (length (piped_places plan.channels)) (replicate (length circuit.signals) 0) tables.takers) takers-are are.takers)
 
-      makers : (s : ℕ) → s < length circuit.signals → value_at tables.makers s ≡ maker_of hub s
-      makers =
-          makers-are hub base owned.signals tables.makers
+      -- the machine with a driver that isn't an input's
+      makers : (s : ℕ) → s < length circuit.signals → ((place : ℕ) → driver_at circuit s ≢ Input place) → value_at tables.makers s ≡ maker_of hub s
+      makers s lt inner =
+          makers-are plain own owned.signals tables.makers
           (subst (λ (l : List Wire). IsFilled (map (λ (w : Wire). w.signal) l) (map (λ (w : Wire). w.producer) l) (length l) owned.signals tables.makers) wires-are are.makers)
-          (λ s lt inner. owns.signals s lt (subst (λ (l : List Wire). IsInner l s) (sym wires-are) inner) ∙ ap (λ l. owner_of circuit design.tree l s) can.is.listed)
+          (λ s lt inner. owns.signals s lt (subst (λ (l : List Wire). IsInner l s) (sym wires-are) inner) ∙ ap (λ l. owner_of circuit design.tree l s) can.is.listed) s lt
+          ∙ sym (maker-same circuit design.tree listed is.formed can.keeps.fitting can.keeps.scoped (faultless-apart design can.request can.none can.keeps.fitting) hub.piped can.request.bridges hub.direct base s inner)
 
-      -- the hub, a unit or a listed memory sees a signal as it should
-      seen : (m s : ℕ) → m < first_source listed → seen_in tables m s ≡ seen_by hub m s
-      seen m s low = seen-is hub base tables pipes (seat_of bridges) takers m s (λ n. seat-low-is bridges m n low)
-
-      maker : (s t : ℕ) → s < length circuit.signals → ((place : ℕ) → driver_at circuit s ≢ Input place) → seen_in tables (maker_of hub s) t ≡ seen_by hub (maker_of hub s) t
-      maker s t lt plain = seen (maker_of hub s) t (maker-low circuit design.tree listed is.formed can.keeps.fitting can.keeps.scoped (faultless-apart design can.request can.none can.keeps.fitting) hub.piped hub.driven hub.direct base s plain)
+      -- a machine sees a signal as it should
+      seen : (m s : ℕ) → seen_in tables m s ≡ seen_by hub m s
+      seen m s = seen-is hub base tables pipes (λ n. n) takers m s (λ n. refl)
 
       -- the machine of the signal that holds a register, or the hub
       holder : (r t : ℕ) → r < length circuit.registers → seen_in tables (value_at tables.holders r) t ≡ seen_by hub (holder_of hub r) t
@@ -223,7 +210,7 @@ module _ (design : Ordered) (plan : Plan) (is : IsDesign design) (can : CanPipe 
               let s = found.item in
               let low : s < length circuit.signals = below s found.among in
               let held = holds-is r (driver_at circuit s) found.passes in
-              ap (λ m. seen_in tables m t) (are.holders.held s r low held ∙ makers s low) ∙ maker s t low (λ place e. no-held r place (sym held ∙ e)) ∙ sym (ap (λ m. seen_by hub m t) (holder-is hub can.held s r low held))
+              ap (λ m. seen_in tables m t) (are.holders.held s r low held ∙ makers s low (λ place e. no-held r place (sym held ∙ e))) ∙ seen (maker_of hub s) t ∙ sym (ap (λ m. seen_by hub m t) (holder-is hub can.held s r low held))
             where
               no-held : (n place : ℕ) → Held n ≡ Input place → ⊥
               no-held n place e = absurd (cc)
@@ -236,7 +223,7 @@ module _ (design : Ordered) (plan : Plan) (is : IsDesign design) (can : CanPipe 
                   let read = get_or-range_with_len 0 (length circuit.signals) h.0 s low in
                   let same = h.2 in
                   omega (arith, low, read, same)
-          by (inr none) = ap (λ m. seen_in tables m t) first ∙ seen 0 t (omega arith) ∙ sym (ap (λ m. seen_by hub m t) (zeroth (first_place test numbers) refl))
+          by (inr none) = ap (λ m. seen_in tables m t) first ∙ seen 0 t ∙ sym (ap (λ m. seen_by hub m t) (zeroth (first_place test numbers) refl))
             where
               free : (s : ℕ) → s < length circuit.signals → ¬ (driver_at circuit s ≡ Held r)
               free s low held = clash (list_any test numbers) (finds-any test numbers s (in-range (length circuit.signals) s low) (ap (holds r) held ∙ eq-eqb r r refl)) none
@@ -257,19 +244,16 @@ module _ (design : Ordered) (plan : Plan) (is : IsDesign design) (can : CanPipe 
           ∙ ap (λ l. memory_owner design.tree l k) can.is.listed
           ∙ sym (keeper-is circuit design.tree listed can.keeps.fitting (memory_owner design.tree listed k) k (record { place = k; known = known; is = can.keeps.copies.number k known; owner = refl }))
 
-      keeper-low : (k : ℕ) → keeper_of design.tree listed k < first_source listed
-      keeper-low k = memory-low design.tree listed (unwrap_or (first_place (λ (memory : MemoryInstance). memory.memory == k) design.tree.memories) 0)
-
-      agreed : AreAgreed circuit (views_by tables) (views_in circuit design.tree listed (is_piped circuit can.request) (is_driven circuit can.request) can.request.direct)
+      agreed : AreAgreed circuit (views_by tables) (views_in circuit design.tree listed (is_piped circuit can.request) can.request.bridges can.request.direct)
       agreed =
           record {
-            maker = λ s t lt named. ap (λ m. seen_in tables m t) (makers s lt) ∙ maker s t lt (not-input (driver_at circuit s) t named);
+            maker = λ s t lt named. ap (λ m. seen_in tables m t) (makers s lt (not-input (driver_at circuit s) t named)) ∙ seen (maker_of hub s) t;
             holder = λ r t register lt found named. holder r t lt;
-            keeper = λ k t lt field. ap (λ m. seen_in tables m t) (keeper k lt) ∙ seen (keeper_of design.tree listed k) t (keeper-low k);
+            keeper = λ k t lt field. ap (λ m. seen_in tables m t) (keeper k lt) ∙ seen (keeper_of design.tree listed k) t;
             kept = kept-is hub base tables pipes;
           }
 
       pub reference-is : reference_of design.circuit (views_by tables) (piped_signals (length design.circuit.signals) plan.channels) ≡ plan_reference design can.request
       reference-is =
           ap (reference_of circuit (views_by tables)) pipes-are
-          ∙ reference-agree circuit (views_by tables) (views_in circuit design.tree listed (is_piped circuit can.request) (is_driven circuit can.request) can.request.direct) (pipes_of hub) agreed
+          ∙ reference-agree circuit (views_by tables) (views_in circuit design.tree listed (is_piped circuit can.request) can.request.bridges can.request.direct) (pipes_of hub) agreed

@@ -8,9 +8,10 @@ ghost use Rattle.gg_cut_pipes.specs.inside.Tables.{piped_signals};
 use crate::fill::{numbers_from, pipes_in, tables_of};
 use crate::made::made;
 use gg_cut_plan::Plan;
-use gg_cut_split::owned_of;
+use gg_cut_split::{ends_of, owned_of};
 use gg_flat::Piece;
 use gg_order::{Design, Order};
+use gg_partfile::BridgeEntry;
 use std::alloc::{AllocError, Global};
 
 /// The reference circuit of a plan: the design, and for each piped channel a register that takes the channel's value in each tick. Where the
@@ -51,7 +52,10 @@ fn circuit_of(
     let _ = design.order();
     let _ = design.tree().memory_count();
     let piece = design.piece();
-    let owned = owned_of(alloc, design, &plan.listed)?;
+    // by what no bridge changes, so without bridges
+    let none: &[BridgeEntry] = &[];
+    let ends = ends_of(alloc, design, &plan.listed, none)?;
+    let owned = owned_of(alloc, design, &plan.listed, none, &ends)?;
     let tables = tables_of(alloc, piece, plan.channels.as_slice(), pipes, &owned)?;
     let circuit = made(alloc, piece, &tables, pipes)?;
     Ok(circuit)

@@ -10,11 +10,13 @@ use Rattle.gg_flat_tree.specs.Tree.{InstanceTree, path_at, instance_at, memory_a
 use Rattle.gg_flat_tree.specs.Scoped.{reader_fields, writer_fields, writers_at, memory_fields}
 use Rattle.gg_flat.proofs.ListLemmas.{once-apart}
 use Rattle.gg_cut_plan.specs.declared.wires.Wire.{Wire}
+use Rattle.gg_partfile.specs.declared.request.BridgeEntry.{BridgeEntry}
+use Rattle.gg_cut_plan.specs.Ports.{ports_of}
 use Rattle.gg_cut_plan.specs.declared.listed.Listed.{Listed}
 use Rattle.gg_cut_plan.specs.Listed.{owner_of_instance, is_among}
 use Rattle.gg_cut_plan.specs.inside.Listed.{AreMarks}
-use Rattle.gg_cut_plan.specs.Machines.{first_memory, first_source, first_tray}
-use Rattle.gg_cut_plan.specs.Channels.{wire, numbered, flattened, port_wire, port_wires, reader_wires, writer_wires, field_wires, source_wires, tray_wires, wires_of}
+use Rattle.gg_cut_plan.specs.Machines.{first_memory}
+use Rattle.gg_cut_plan.specs.Channels.{wire, numbered, flattened, port_wire, port_wires, reader_wires, writer_wires, field_wires, input_wires, output_wires, wires_of}
 use Rattle.gg_cut_plan.specs.inside.Channels.{port_signals, channel_signals}
 use Rattle.gg_cut_plan.proofs.PathLemmas.{HoldsPath, holds-path}
 
@@ -47,17 +49,18 @@ port-signals outside unit (port ∷ ports) = ap₂ (λ s l. s ∷ l) (by port.is
     by false = refl
 
 -- the signals of `wires_of` are `channel_signals`, in the same order
-pub wires-signals : (circuit : FlatCircuit) (tree : InstanceTree) (listed : Listed) → map (λ (w : Wire). w.signal) (wires_of circuit tree listed) ≡ channel_signals circuit tree listed
-wires-signals circuit tree listed =
+pub wires-signals : (circuit : FlatCircuit) (tree : InstanceTree) (listed : Listed) (entries : List BridgeEntry) → map (λ (w : Wire). w.signal) (wires_of circuit tree listed entries) ≡ channel_signals circuit tree listed
+wires-signals circuit tree listed entries =
+    let b = ports_of circuit tree listed entries in
     let units = numbered (port_wires tree listed.units) 1 listed.units in
     let memories = numbered (field_wires circuit tree listed.units) (first_memory listed) listed.memories in
-    let trays = numbered (tray_wires circuit tree listed) (first_tray circuit listed) circuit.outs in
-    map-append signal_of (numbered source_wires (first_source listed) circuit.ins) (units ++ (memories ++ trays))
-    ∙ ap₂ (λ a b. a ++ b) (numbered-signals source_wires (λ s. s ∷ []) (first_source listed) circuit.ins (λ k s. refl) ∙ single circuit.ins)
-    (map-append signal_of units (memories ++ trays)
+    let outs = numbered (output_wires circuit tree listed b) 0 circuit.outs in
+    map-append signal_of (numbered (input_wires b) 0 circuit.ins) (units ++ (memories ++ outs))
+    ∙ ap₂ (λ a b. a ++ b) (numbered-signals (input_wires b) (λ s. s ∷ []) 0 circuit.ins (λ k s. refl) ∙ single circuit.ins)
+    (map-append signal_of units (memories ++ outs)
     ∙ ap₂ (λ a b. a ++ b)
     (numbered-signals (port_wires tree listed.units) (port_signals tree) 1 listed.units (λ k unit. port-signals (owner_of_instance tree listed.units (parent_place (instance_at tree unit).parent)) k (instance_at tree unit).ports))
-    (map-append signal_of memories trays
+    (map-append signal_of memories outs
     ∙ ap₂ (λ a b. a ++ b)
     (numbered-signals (field_wires circuit tree listed.units) (λ j. memory_fields circuit (memory_at tree j).memory) (first_memory listed) listed.memories (λ k j.
     let outside = owner_of_instance tree listed.units (memory_at tree j).instance in
@@ -65,7 +68,7 @@ wires-signals circuit tree listed =
     ∙ ap₂ (λ a b. a ++ b)
     (flattened-signals (reader_wires outside k) (λ reader. reader_fields reader) (readers_at circuit (memory_at tree j).memory) (λ reader. refl))
     (flattened-signals (writer_wires outside k) (λ writer. writer_fields writer) (writers_at circuit (memory_at tree j).memory) (λ writer. refl))))
-    (numbered-signals (tray_wires circuit tree listed) (λ s. s ∷ []) (first_tray circuit listed) circuit.outs (λ k s. refl) ∙ single circuit.outs)))
+    (numbered-signals (output_wires circuit tree listed b) (λ s. s ∷ []) 0 circuit.outs (λ k s. refl) ∙ single circuit.outs)))
 
 -- ---- marks
 

@@ -57,20 +57,20 @@ module _ (hub : Hub) where
     pub next : ℕ
     pub is : copied hub.circuit w.signal ≡ Some next
     pub from : origin hub next ≡ Some x
-    pub plain : hub.memory (giver hub x) ≡ false
+    pub plain : hub.silent (giver hub x) ≡ false
 
   pub direct-is : (w : Wire) (x : ℕ) → direct_of hub w ≡ Some x → IsDirect w x
   direct-is w x e = by (may_be_direct hub w) refl e
     where
-      tail : (t y : ℕ) (b : Bool) → may_be_direct hub w ≡ true → copied hub.circuit w.signal ≡ Some t → origin hub t ≡ Some y → hub.memory (giver hub y) ≡ b → (if b then None else Some y) ≡ Some x → IsDirect w x
+      tail : (t y : ℕ) (b : Bool) → may_be_direct hub w ≡ true → copied hub.circuit w.signal ≡ Some t → origin hub t ≡ Some y → hub.silent (giver hub y) ≡ b → (if b then None else Some y) ≡ Some x → IsDirect w x
       tail t y true may c d f e = absurd (some-clash x None e refl)
       tail t y false may c d f e =
           let same = same-value y x (Some y) refl e in
-          record { may = may-be w may; next = t; is = c; from = d ∙ e; plain = subst (λ z. hub.memory (giver hub z) ≡ false) same f }
+          record { may = may-be w may; next = t; is = c; from = d ∙ e; plain = subst (λ z. hub.silent (giver hub z) ≡ false) same f }
 
       end : (t : ℕ) (o : Option ℕ) → may_be_direct hub w ≡ true → copied hub.circuit w.signal ≡ Some t → origin hub t ≡ o → if_plain hub o ≡ Some x → IsDirect w x
       end t None may c d e = absurd (some-clash x None e refl)
-      end t (Some y) may c d e = tail t y (hub.memory (giver hub y)) may c d refl e
+      end t (Some y) may c d e = tail t y (hub.silent (giver hub y)) may c d refl e
 
       from : (to : Option ℕ) → may_be_direct hub w ≡ true → copied hub.circuit w.signal ≡ to → if_plain hub (option_and_then (origin hub) to) ≡ Some x → IsDirect w x
       from None may c e = absurd (some-clash x None e refl)

@@ -3,6 +3,8 @@ pub mod WorkedCells
 pub mod WorkedDirect
 pub mod WorkedSeats
 pub mod PathLemmas
+pub mod CountLemmas
+pub mod PortLemmas
 pub mod FindLemmas
 pub mod RatioLemmas
 pub mod ChainLemmas
@@ -11,8 +13,8 @@ pub mod KnownLemmas
 pub mod OwnerLemmas
 pub mod RangeLemmas
 pub mod ChannelLemmas
-pub mod TrayLemmas
 pub mod WireLemmas
+pub mod EntryLemmas
 pub mod OriginLemmas
 pub mod DirectLemmas
 pub mod SameLemmas

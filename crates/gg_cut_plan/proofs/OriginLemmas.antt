@@ -1,6 +1,6 @@
 -- Origins: what a chain of copies is, step by step.
 use Rattle.std.proofs.Common.{◌≡◌, ℕ, zero, suc, List, [], ◌∷◌, Bool, true, false, not, Option, Some, None, length, sym, ◌∙◌, ap, subst, inl, inr, ◌⊎◌, refl, true≢false, arith}
-use Rattle.std.specs.Prelude.{◌&&◌, ◌||◌, ◌==◌, if◌then◌else◌, Contains, option_and_then}
+use Rattle.std.specs.Prelude.{◌&&◌, ◌==◌, if◌then◌else◌, Contains, option_and_then}
 use Rattle.std.specs.List.{list_any}
 use Rattle.std.proofs.lemmas.Bool.{cases_Bool, and_parts, not-true}
 use Rattle.std.proofs.lemmas.List.Folds.{Any-from_list_any, list_any-from_Any}
@@ -95,31 +95,29 @@ copy-names circuit s t is = ap (driver_names circuit) is.bare.is ∙ one is.bare
 module _ (hub : Hub) where
   -- The chain from signal s to the in-channel x, in at most n signals: s is x, or it is a copy of the next in the chain.
   pub data Chain (n s x : ℕ) : Type 0 where
-    Here : (more : ℕ) → n ≡ suc more → is_taken hub s ≡ true → hub.piped s ≡ false → hub.driven s ≡ false → s ≡ x → Chain n s x
+    Here : (more : ℕ) → n ≡ suc more → is_taken hub s ≡ true → hub.piped s ≡ false → s ≡ x → Chain n s x
     Copy : (more t : ℕ) → n ≡ suc more → is_taken hub s ≡ false → is_own hub s ≡ true → copied hub.circuit s ≡ Some t → origin_within hub more t ≡ Some x → Chain n s x
 
   pub chain : (n s x : ℕ) → origin_within hub n s ≡ Some x → Chain n s x
   chain zero s x e = absurd (some-clash x None e refl)
-  chain (suc more) s x e = by (is_taken hub s) (hub.piped s) (hub.driven s) (is_own hub s) (copied hub.circuit s) refl refl refl refl refl e
+  chain (suc more) s x e = by (is_taken hub s) (hub.piped s) (is_own hub s) (copied hub.circuit s) refl refl refl refl e
     where
-      by : (taken piped driven own : Bool) (to : Option ℕ) → is_taken hub s ≡ taken → hub.piped s ≡ piped → hub.driven s ≡ driven → is_own hub s ≡ own → copied hub.circuit s ≡ to
-          → (if taken then (if piped || driven then None else Some s) else (if own then option_and_then (origin_within hub more) to else None)) ≡ Some x → Chain (suc more) s x
-      by true true driven own to a b f c d e = absurd (some-clash x None e refl)
-      by true false true own to a b f c d e = absurd (some-clash x None e refl)
-      by true false false own to a b f c d e = Here more refl a b f (same-value s x (Some s) refl e)
-      by false piped driven true (Some t) a b f c d e = Copy more t refl a c d e
-      by false piped driven true None a b f c d e = absurd (some-clash x None e refl)
-      by false piped driven false to a b f c d e = absurd (some-clash x None e refl)
+      by : (taken piped own : Bool) (to : Option ℕ) → is_taken hub s ≡ taken → hub.piped s ≡ piped → is_own hub s ≡ own → copied hub.circuit s ≡ to
+          → (if taken then (if piped then None else Some s) else (if own then option_and_then (origin_within hub more) to else None)) ≡ Some x → Chain (suc more) s x
+      by true true own to a b c d e = absurd (some-clash x None e refl)
+      by true false own to a b c d e = Here more refl a b (same-value s x (Some s) refl e)
+      by false piped true (Some t) a b c d e = Copy more t refl a c d e
+      by false piped true None a b c d e = absurd (some-clash x None e refl)
+      by false piped false to a b c d e = absurd (some-clash x None e refl)
 
-  pub chain-here : (n s : ℕ) → is_taken hub s ≡ true → hub.piped s ≡ false → hub.driven s ≡ false → origin_within hub (suc n) s ≡ Some s
-  chain-here n s taken plain free =
-      ap (λ b. if b then (if hub.piped s || hub.driven s then None else Some s) else (if is_own hub s then option_and_then (origin_within hub n) (copied hub.circuit s) else None)) taken
-      ∙ ap (λ b. if b || hub.driven s then None else Some s) plain
-      ∙ ap (λ b. if b then None else Some s) free
+  pub chain-here : (n s : ℕ) → is_taken hub s ≡ true → hub.piped s ≡ false → origin_within hub (suc n) s ≡ Some s
+  chain-here n s taken plain =
+      ap (λ b. if b then (if hub.piped s then None else Some s) else (if is_own hub s then option_and_then (origin_within hub n) (copied hub.circuit s) else None)) taken
+      ∙ ap (λ b. if b then None else Some s) plain
 
   pub chain-copy : (n s t : ℕ) → is_taken hub s ≡ false → is_own hub s ≡ true → copied hub.circuit s ≡ Some t → origin_within hub (suc n) s ≡ origin_within hub n t
   chain-copy n s t taken own is =
-      ap (λ b. if b then (if hub.piped s || hub.driven s then None else Some s) else (if is_own hub s then option_and_then (origin_within hub n) (copied hub.circuit s) else None)) taken
+      ap (λ b. if b then (if hub.piped s then None else Some s) else (if is_own hub s then option_and_then (origin_within hub n) (copied hub.circuit s) else None)) taken
       ∙ ap (λ b. if b then option_and_then (origin_within hub n) (copied hub.circuit s) else None) own
       ∙ ap (option_and_then (origin_within hub n)) is
 
@@ -129,23 +127,22 @@ module _ (hub : Hub) where
   chain-more (suc n) s x e = by (chain (suc n) s x e) (λ t h. chain-more n t x h)
     where
       by : Chain (suc n) s x → ((t : ℕ) → origin_within hub n t ≡ Some x → origin_within hub (suc n) t ≡ Some x) → origin_within hub (suc (suc n)) s ≡ Some x
-      by (Here more same taken plain free is) rest = chain-here (suc n) s taken plain free ∙ ap Some is
+      by (Here more same taken plain is) rest = chain-here (suc n) s taken plain ∙ ap Some is
       by (Copy more t same taken own to e) rest =
           let less : more ≡ n = omega (arith, same) in
           chain-copy (suc n) s t taken own to ∙ rest t (subst (λ k. origin_within hub k t ≡ Some x) less e)
 
-  -- an origin is an in-channel of the hub that isn't piped and that no bridge drives
+  -- an origin is an in-channel of the hub that isn't piped
   pub record IsOrigin (x : ℕ) : Type 0 where
     pub taken : is_taken hub x ≡ true
     pub plain : hub.piped x ≡ false
-    pub free : hub.driven x ≡ false
 
   pub chain-end : (n s x : ℕ) → origin_within hub n s ≡ Some x → IsOrigin x
   chain-end zero s x e = absurd (some-clash x None e refl)
   chain-end (suc n) s x e = by (chain (suc n) s x e) (λ t h. chain-end n t x h)
     where
       by : Chain (suc n) s x → ((t : ℕ) → origin_within hub n t ≡ Some x → IsOrigin x) → IsOrigin x
-      by (Here more same taken plain free is) rest = subst IsOrigin is (record { taken = taken; plain = plain; free = free })
+      by (Here more same taken plain is) rest = subst IsOrigin is (record { taken = taken; plain = plain })
       by (Copy more t same taken own to e) rest =
           let less : more ≡ n = omega (arith, same) in
           rest t (subst (λ k. origin_within hub k t ≡ Some x) less e)
@@ -169,7 +166,7 @@ module _ (hub : Hub) where
   origin-copy s t x own to e = by (chain (length hub.circuit.signals) s x e)
     where
       by : Chain (length hub.circuit.signals) s x → origin hub t ≡ Some x
-      by (Here more same taken plain free is) = absurd (clash (is_taken hub s) taken (own-untaken s own))
+      by (Here more same taken plain is) = absurd (clash (is_taken hub s) taken (own-untaken s own))
       by (Copy more u same taken own too e) =
           let t-is = same-value u t (copied hub.circuit s) too to in
           subst (λ k. origin_within hub k t ≡ Some x) (sym same) (chain-more more t x (subst (λ v. origin_within hub more v ≡ Some x) t-is e))

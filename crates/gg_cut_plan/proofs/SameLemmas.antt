@@ -112,7 +112,7 @@ module _ (hub : Hub) (whole : FlatCircuit) (kept : AreKeptIn hub whole) where
   chain-value (suc n) s x lt e state inputs row settled = by (chain hub (suc n) s x e) (λ t known h. chain-value n t x known h state inputs row settled)
     where
       by : Chain hub (suc n) s x → ((t : ℕ) → t < length hub.circuit.signals → origin_within hub n t ≡ Some x → value_at row t ≡ value_at row x) → value_at row s ≡ value_at row x
-      by (Here more same taken plain free is) rest = ap (value_at row) is
+      by (Here more same taken plain is) rest = ap (value_at row) is
       by (Copy more t same taken own to e) rest =
           let k = kept.each more s t x lt (inl own) to e in
           let less : more ≡ n = omega (arith, same) in

@@ -1,11 +1,8 @@
 -- The channels that a machine gives.
-use Rattle.std.proofs.Common.{◌≡◌, ℕ, zero, suc, ◌+◌, ◌<◌, ◌≤◌, List, [], ◌∷◌, ◌++◌, length, map, get_or, Bool, true, false, eq-eqb, refl, sym, ◌∙◌, ap, ap₂, subst, inl, inr, ◌⊎◌, arith}
-use Rattle.std.specs.Prelude.{filter, cond, ◌==◌, if◌then◌else◌, Option, Some, None, All, Contains}
+use Rattle.std.proofs.Common.{◌≡◌, ℕ, zero, suc, ◌+◌, ◌<◌, ◌≤◌, List, [], ◌∷◌, ◌++◌, length, map, Bool, true, false, refl, ◌∙◌, ap, ap₂, subst, arith}
+use Rattle.std.specs.Prelude.{filter, cond, ◌==◌, if◌then◌else◌, Option, Some, None, All}
 use Rattle.std.specs.List.{range_with_len}
-use Rattle.std.proofs.lemmas.List.Elements.{filter-append}
-use Rattle.std.proofs.lemmas.Bool.{cases_lt, ne_eqb}
 use Rattle.std.proofs.lemmas.List.{get_or_default}
-use Rattle.gg_flat.proofs.ListLemmas.{Contains-map, Contains-filter}
 use Rattle.gg_flat_tree.specs.declared.tree.InstancePort.{InstancePort}
 use Rattle.gg_flat.specs.declared.memory.Reader.{Reader}
 use Rattle.gg_flat.specs.declared.memory.Writer.{Writer}
@@ -16,8 +13,10 @@ use Rattle.gg_cut_plan.specs.declared.listed.Listed.{Listed}
 use Rattle.gg_cut_plan.specs.Listed.{unit_or_hub, memory_or, owner_of_instance, owner_of, has_signal, has_field, lies, first_place}
 use Rattle.gg_cut_plan.proofs.PathLemmas.{first_place-Some}
 use Rattle.gg_cut_plan.specs.declared.wires.Wire.{Wire}
-use Rattle.gg_cut_plan.specs.Machines.{first_memory, first_source, first_tray}
-use Rattle.gg_cut_plan.specs.Channels.{wire, numbered, flattened, port_wire, port_wires, reader_wires, writer_wires, field_wires, source_wires, tray_wires, wires_of}
+use Rattle.gg_partfile.specs.declared.request.BridgeEntry.{BridgeEntry}
+use Rattle.gg_cut_plan.specs.Ports.{ports_of}
+use Rattle.gg_cut_plan.specs.Machines.{first_memory, first_source}
+use Rattle.gg_cut_plan.specs.Channels.{wire, numbered, flattened, port_wire, port_wires, reader_wires, writer_wires, field_wires, input_wires, output_wires, wires_of}
 use Rattle.gg_cut_plan.specs.Plan.{wire_at, channels_to, channels_from, signals_of, givens_of}
 
 -- ---- a property of each wire, by recursion
@@ -80,9 +79,6 @@ signals-to wires m =
 
 -- ---- who gives what
 
-other-number : (a b : ℕ) → a < b → (a == b) ≡ false
-other-number a b lt = ne_eqb a b (λ same. omega (arith, same, lt))
-
 abbrev Below : ℕ → Wire → Type 0
 Below n w = w.producer < n
 
@@ -120,14 +116,14 @@ reader-below n outside memory lo lm reader = (lo, (lo, (lm, tt)))
 writer-below : (n outside memory : ℕ) → outside < n → (writer : Writer) → Each (Below n) (writer_wires outside memory writer)
 writer-below n outside memory lo writer = (lo, (lo, (lo, (lo, tt))))
 
-module _ (circuit : FlatCircuit) (tree : InstanceTree) (listed : Listed) where
+module _ (circuit : FlatCircuit) (tree : InstanceTree) (listed : Listed) (entries : List BridgeEntry) where
   abbrev pub rest_wires : List Wire
   rest_wires =
       numbered (port_wires tree listed.units) 1 listed.units
       ++ (numbered (field_wires circuit tree listed.units) (first_memory listed) listed.memories
-      ++ numbered (tray_wires circuit tree listed) (first_tray circuit listed) circuit.outs)
+      ++ numbered (output_wires circuit tree listed (ports_of circuit tree listed entries)) 0 circuit.outs)
 
-  -- a channel that isn't a source's is given by a machine before the first source
+  -- a channel that isn't a top input's is given by a machine before the first source
   pub rest-below : Each (Below (first_source listed)) rest_wires
   rest-below =
       let n = first_source listed in
@@ -143,83 +139,7 @@ module _ (circuit : FlatCircuit) (tree : InstanceTree) (listed : Listed) where
       Each-append (Below n) (flattened (reader_wires outside k) (readers_at circuit (memory_at tree j).memory)) (flattened (writer_wires outside k) (writers_at circuit (memory_at tree j).memory))
       (Each-flattened (Below n) (reader_wires outside k) (readers_at circuit (memory_at tree j).memory) (reader-below n outside k lo lt))
       (Each-flattened (Below n) (writer_wires outside k) (writers_at circuit (memory_at tree j).memory) (writer-below n outside k lo))))
-      (Each-numbered (Below n) (tray_wires circuit tree listed) (first_tray circuit listed) circuit.outs (λ k s le lt. (owner-below circuit tree listed s, tt))))
-
-  other-rest : (m : ℕ) → first_source listed ≤ m → (xs : List Wire) → Each (Below (first_source listed)) xs → Each (λ w. (w.producer == m) ≡ false) xs
-  other-rest m le [] each = tt
-  other-rest m le (x ∷ xs) each = (other-number x.producer m (omega (arith, each.0, le)), other-rest m le xs each.1)
-
-  -- ---- sources
-
-  number-other : (m : ℕ) (k : ℕ) (ins : List ℕ) → m < k → filter (λ w. w.producer == m) (numbered source_wires k ins) ≡ []
-  number-other m k [] lt = refl
-  number-other m k (s ∷ ins) lt =
-      ap (λ b. cond b (wire s k 0 ∷ filter (λ w. w.producer == m) (numbered source_wires (suc k) ins)) (filter (λ w. w.producer == m) (numbered source_wires (suc k) ins))) (ne_eqb k m (λ same. omega (arith, same, lt)))
-      ∙ number-other m (suc k) ins (omega arith)
-
-  source-one : (k i : ℕ) (ins : List ℕ) → i < length ins → filter (λ w. w.producer == (k + i)) (numbered source_wires k ins) ≡ wire (get_or ins i 0) (k + i) 0 ∷ []
-  source-one k i [] lt = absurd (omega arith)
-  source-one k zero (s ∷ ins) lt =
-      let place : k + 0 ≡ k = omega arith in
-      let here : (k == (k + 0)) ≡ true = eq-eqb k (k + 0) (sym place) in
-      let rest = filter (λ w. w.producer == (k + 0)) (numbered source_wires (suc k) ins) in
-      ap (λ b. cond b (wire s k 0 ∷ rest) rest) here ∙ ap₂ (λ p l. wire s p 0 ∷ l) (sym place) (number-other (k + 0) (suc k) ins (omega arith))
-  source-one k (suc i) (s ∷ ins) lt =
-      let place : k + suc i ≡ suc k + i = omega arith in
-      let rest = filter (λ w. w.producer == (k + suc i)) (numbered source_wires (suc k) ins) in
-      ap (λ b. cond b (wire s k 0 ∷ rest) rest) (other-number k (k + suc i) (omega arith))
-      ∙ ap (λ m. filter (λ w. w.producer == m) (numbered source_wires (suc k) ins)) place
-      ∙ source-one (suc k) i ins (omega arith)
-      ∙ ap (λ m. wire (get_or ins i 0) m 0 ∷ []) (sym place)
-
-  -- a source gives only its top input
-  pub source-gives : (m i : ℕ) → m ≡ first_source listed + i → i < length circuit.ins → signals_of (wires_of circuit tree listed) (channels_from (wires_of circuit tree listed) m) ≡ get_or circuit.ins i 0 ∷ []
-  source-gives m i is lt =
-      let wires = wires_of circuit tree listed in
-      signals-from wires m
-      ∙ ap (map (λ (w : Wire). w.signal))
-      (filter-append (λ w. w.producer == m) (numbered source_wires (first_source listed) circuit.ins) rest_wires
-      ∙ ap₂ (λ xs ys. xs ++ ys)
-      (ap (λ m. filter (λ w. w.producer == m) (numbered source_wires (first_source listed) circuit.ins)) is ∙ source-one (first_source listed) i circuit.ins lt)
-      (filter-none (λ w. w.producer == m) rest_wires (other-rest m (omega (arith, is)) rest_wires rest-below)))
-
-  sources-below : (m k : ℕ) (ins : List ℕ) → k + length ins ≤ m → filter (λ w. w.producer == m) (numbered source_wires k ins) ≡ []
-  sources-below m k [] le = refl
-  sources-below m k (s ∷ ins) le =
-      let rest = filter (λ w. w.producer == m) (numbered source_wires (suc k) ins) in
-      ap (λ b. cond b (wire s k 0 ∷ rest) rest) (other-number k m (omega arith)) ∙ sources-below m (suc k) ins (omega arith)
-
-  -- a tray gives nothing
-  pub tray-gives : (m : ℕ) → first_tray circuit listed ≤ m → signals_of (wires_of circuit tree listed) (channels_from (wires_of circuit tree listed) m) ≡ []
-  tray-gives m le =
-      let wires = wires_of circuit tree listed in
-      signals-from wires m
-      ∙ ap (map (λ (w : Wire). w.signal))
-      (filter-append (λ w. w.producer == m) (numbered source_wires (first_source listed) circuit.ins) rest_wires
-      ∙ ap₂ (λ xs ys. xs ++ ys) (sources-below m (first_source listed) circuit.ins le)
-      (filter-none (λ w. w.producer == m) rest_wires (other-rest m (omega arith) rest_wires rest-below)))
-
-  -- a channel from a machine is among those that it gives
-  from-wire : (w : Wire) → Contains (wires_of circuit tree listed) w → Contains (signals_of (wires_of circuit tree listed) (channels_from (wires_of circuit tree listed) w.producer)) w.signal
-  from-wire w h =
-      let wires = wires_of circuit tree listed in
-      subst (λ (l : List ℕ). Contains l w.signal) (sym (signals-from wires w.producer))
-      (Contains-map (λ (v : Wire). v.signal) (filter (λ v. v.producer == w.producer) wires) w (Contains-filter (λ v. v.producer == w.producer) wires w h (eq-eqb w.producer w.producer refl)))
-
-  -- each channel from a source carries its top input, and none is from a tray
-  pub source-only : (i : ℕ) → i < length circuit.ins → (w : Wire) → Contains (wires_of circuit tree listed) w → w.producer ≡ first_source listed + i → w.signal ≡ get_or circuit.ins i 0
-  source-only i lt w h is = one (subst (λ (l : List ℕ). Contains l w.signal) (source-gives w.producer i is lt) (from-wire w h))
-    where
-      one : {x y : ℕ} → Contains (x ∷ []) y → y ≡ x
-      one (zero, lt, e) = sym e
-      one (suc k, lt, e) = absurd (omega (arith, lt))
-
-  pub tray-never : (w : Wire) → Contains (wires_of circuit tree listed) w → w.producer < first_tray circuit listed
-  tray-never w h = by (cases_lt w.producer (first_tray circuit listed))
-    where
-      by : (w.producer < first_tray circuit listed) ⊎ (first_tray circuit listed ≤ w.producer) → w.producer < first_tray circuit listed
-      by (inl lt) = lt
-      by (inr le) = let none = subst (λ (l : List ℕ). Contains l w.signal) (tray-gives w.producer le) (from-wire w h) in absurd (omega (arith, none.1))
+      (Each-numbered (Below n) (output_wires circuit tree listed (ports_of circuit tree listed entries)) 0 circuit.outs (λ k s le lt. (owner-below circuit tree listed s, tt))))
 
 -- ---- the signals by which channels are given
 
@@ -233,11 +153,11 @@ port-same outside unit port = by port.is_input
     by true = refl
     by false = refl
 
-module _ (circuit : FlatCircuit) (tree : InstanceTree) (listed : Listed) where
-  same-each : Each IsSame (wires_of circuit tree listed)
+module _ (circuit : FlatCircuit) (tree : InstanceTree) (listed : Listed) (entries : List BridgeEntry) where
+  same-each : Each IsSame (wires_of circuit tree listed entries)
   same-each =
-      Each-append IsSame (numbered source_wires (first_source listed) circuit.ins) _
-      (Each-numbered IsSame source_wires (first_source listed) circuit.ins (λ k s le lt. (refl, tt)))
+      Each-append IsSame (numbered (input_wires (ports_of circuit tree listed entries)) 0 circuit.ins) _
+      (Each-numbered IsSame (input_wires (ports_of circuit tree listed entries)) 0 circuit.ins (λ k s le lt. (refl, tt)))
       (Each-append IsSame (numbered (port_wires tree listed.units) 1 listed.units) _
       (Each-numbered IsSame (port_wires tree listed.units) 1 listed.units (λ k unit le lt.
       let outside = owner_of_instance tree listed.units (parent_place (instance_at tree unit).parent) in
@@ -248,7 +168,7 @@ module _ (circuit : FlatCircuit) (tree : InstanceTree) (listed : Listed) where
       Each-append IsSame (flattened (reader_wires outside k) (readers_at circuit (memory_at tree j).memory)) (flattened (writer_wires outside k) (writers_at circuit (memory_at tree j).memory))
       (Each-flattened IsSame (reader_wires outside k) (readers_at circuit (memory_at tree j).memory) (λ reader. (refl, (refl, (refl, tt)))))
       (Each-flattened IsSame (writer_wires outside k) (writers_at circuit (memory_at tree j).memory) (λ writer. (refl, (refl, (refl, (refl, tt))))))))
-      (Each-numbered IsSame (tray_wires circuit tree listed) (first_tray circuit listed) circuit.outs (λ k s le lt. (refl, tt)))))
+      (Each-numbered IsSame (output_wires circuit tree listed (ports_of circuit tree listed entries)) 0 circuit.outs (λ k s le lt. (refl, tt)))))
 
   at-each : (wires : List Wire) → Each IsSame wires → (c : ℕ) → IsSame (wire_at wires c)
   at-each [] each c = refl
@@ -256,12 +176,12 @@ module _ (circuit : FlatCircuit) (tree : InstanceTree) (listed : Listed) where
   at-each (w ∷ wires) each (suc c) = at-each wires each.1 c
 
   -- a channel of a cut is given by the signal that its consumer takes
-  pub given-same : (c : ℕ) → (wire_at (wires_of circuit tree listed) c).given ≡ (wire_at (wires_of circuit tree listed) c).signal
-  given-same = at-each (wires_of circuit tree listed) same-each
+  pub given-same : (c : ℕ) → (wire_at (wires_of circuit tree listed entries) c).given ≡ (wire_at (wires_of circuit tree listed entries) c).signal
+  given-same = at-each (wires_of circuit tree listed entries) same-each
 
-  pub givens-same : (channels : List ℕ) → givens_of (wires_of circuit tree listed) channels ≡ signals_of (wires_of circuit tree listed) channels
+  pub givens-same : (channels : List ℕ) → givens_of (wires_of circuit tree listed entries) channels ≡ signals_of (wires_of circuit tree listed entries) channels
   givens-same [] = refl
   givens-same (c ∷ channels) = ap₂ (λ s l. s ∷ l) (given-same c) (givens-same channels)
 
-  pub all-plain : All (λ w. w.given ≡ w.signal) (wires_of circuit tree listed)
-  all-plain i d lt = subst (λ (w : Wire). w.given ≡ w.signal) (get_or_default (wires_of circuit tree listed) i (wire 0 0 0) d lt) (given-same i)
+  pub all-plain : All (λ w. w.given ≡ w.signal) (wires_of circuit tree listed entries)
+  all-plain i d lt = subst (λ (w : Wire). w.given ≡ w.signal) (get_or_default (wires_of circuit tree listed entries) i (wire 0 0 0) d lt) (given-same i)

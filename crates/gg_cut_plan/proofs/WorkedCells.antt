@@ -87,7 +87,7 @@ nested-owners : map (owner_of circuit tree nested) (0 ∷ 1 ∷ 4 ∷ 9 ∷ 10 �
 nested-owners = refl
 
 -- The fields of `u.m` are given by the hub, those of `v.m` by the unit `v`.
-nested-wires : wires_of circuit tree nested ≡
+nested-wires : wires_of circuit tree nested [] ≡
     wire 10 1 0 ∷ wire 9 2 0
     ∷ wire 2 0 3 ∷ wire 3 0 3 ∷ wire 4 3 0 ∷ wire 5 0 3 ∷ wire 6 0 3 ∷ wire 7 0 3 ∷ wire 8 0 3
     ∷ wire 11 1 4 ∷ wire 12 1 4 ∷ wire 13 4 1 ∷ wire 14 1 4 ∷ wire 15 1 4 ∷ wire 16 1 4 ∷ wire 17 1 4

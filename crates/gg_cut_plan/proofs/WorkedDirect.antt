@@ -1,6 +1,6 @@
 -- Direct channels, and what leaves the hub, worked by hand.
 use Rattle.std.proofs.Common.{◌≡◌, ℕ, List, [], ◌∷◌, Bool, true, false, Option, Some, None, refl}
-use Rattle.std.specs.Prelude.{◌==◌, map}
+use Rattle.std.specs.Prelude.{◌==◌, codes, map}
 use Rattle.gg_bits.specs.declared.ops.Op1.TheVariants.{Not}
 use Rattle.gg_flat.specs.declared.line.Node.{Node}
 use Rattle.gg_flat.specs.declared.line.Op.TheVariants.{Ref, One}
@@ -10,6 +10,7 @@ use Rattle.gg_flat.specs.declared.piece.Signal.{Signal}
 use Rattle.gg_flat.specs.Line.{value_at}
 use Rattle.gg_flat.proofs.WorkedCircuits.{eight, nine, node}
 use Rattle.gg_flat.proofs.WorkedMemories.{signal, copy}
+use Rattle.gg_partfile.specs.declared.request.BridgeEntry.{BridgeEntry}
 use Rattle.gg_cut_plan.specs.declared.wires.Wire.{Wire}
 use Rattle.gg_cut_plan.specs.Channels.{wire}
 use Rattle.gg_cut_plan.proofs.WorkedPair.{circuit, tree, listed}
@@ -24,7 +25,7 @@ channel signal given producer consumer = record { signal = signal; given = given
 -- ---- two units that feed each other
 
 abbrev hub : Hub
-hub = hub_of circuit tree listed none none true
+hub = hub_of circuit tree listed none [] true
 
 -- signals: 0 x, 1 q, 2 a.x, 3 a.k, 4 a.p, 5 a.q, 6 b.m, 7 b.n
 pair-origins : map (origin hub) (0 ∷ 1 ∷ 2 ∷ 4 ∷ 7 ∷ []) ≡ Some 0 ∷ None ∷ None ∷ Some 4 ∷ Some 7 ∷ []
@@ -41,15 +42,18 @@ pair : routes hub ≡ channel 2 0 3 1 ∷ channel 3 7 2 1 ∷ channel 6 4 1 2 �
 pair = refl
 
 -- not asked for: all channels are as they were
-pair-plain : routes (hub_of circuit tree listed none none false) ≡ channel 0 0 3 0 ∷ channel 2 2 0 1 ∷ channel 3 3 0 1 ∷ channel 4 4 1 0 ∷ channel 5 5 1 0 ∷ channel 6 6 0 2 ∷ channel 7 7 2 0 ∷ channel 1 1 0 4 ∷ []
+pair-plain : routes (hub_of circuit tree listed none [] false) ≡ channel 0 0 3 0 ∷ channel 2 2 0 1 ∷ channel 3 3 0 1 ∷ channel 4 4 1 0 ∷ channel 5 5 1 0 ∷ channel 6 6 0 2 ∷ channel 7 7 2 0 ∷ channel 1 1 0 4 ∷ []
 pair-plain = refl
 
 -- `b.n` is piped: it is no origin, so `a.k` is not direct and `b.n` stays
-pair-piped : routes (hub_of circuit tree listed (λ s. s == 7) none true) ≡ channel 2 0 3 1 ∷ channel 3 3 0 1 ∷ channel 6 4 1 2 ∷ channel 7 7 2 0 ∷ channel 1 5 1 4 ∷ []
+pair-piped : routes (hub_of circuit tree listed (λ s. s == 7) [] true) ≡ channel 2 0 3 1 ∷ channel 3 3 0 1 ∷ channel 6 4 1 2 ∷ channel 7 7 2 0 ∷ channel 1 5 1 4 ∷ []
 pair-piped = refl
 
--- a bridge drives `x`: it is no origin, so `a.x` is not direct and `x` stays
-pair-driven : routes (hub_of circuit tree listed none (λ s. s == 0) true) ≡ channel 0 0 3 0 ∷ channel 2 2 0 1 ∷ channel 3 7 2 1 ∷ channel 6 4 1 2 ∷ channel 1 5 1 4 ∷ []
+abbrev drives_x : BridgeEntry
+drives_x = record { name = codes "e"; sees = []; drives = codes "x" ∷ [] }
+
+-- a bridge drives `x`: it produces no origin, so `a.x` is not direct and `x` stays
+pair-driven : routes (hub_of circuit tree listed none (drives_x ∷ []) true) ≡ channel 0 0 4 0 ∷ channel 2 2 0 1 ∷ channel 3 7 2 1 ∷ channel 6 4 1 2 ∷ channel 1 5 1 3 ∷ []
 pair-driven = refl
 
 -- ---- hubs by their lists
@@ -64,9 +68,8 @@ made_of signals owners base held =
       base = base;
       held = held;
       stops = [];
-      memory = λ m. m == 2;
+      silent = λ m. m == 2;
       piped = none;
-      driven = none;
       direct = true;
     }
 
@@ -77,7 +80,7 @@ two =
     (made_of
     (signal eight (Input 0) ∷ copy eight 4 ∷ copy eight 7 ∷ copy eight 0 ∷ signal eight (Held 0) ∷ signal eight (Held 0) ∷ signal eight (Computed (node eight (Ref 0) ∷ node eight (One Not 0) ∷ [])) ∷ signal eight (Held 1) ∷ [])
     (0 ∷ 0 ∷ 0 ∷ 1 ∷ 1 ∷ 1 ∷ 2 ∷ 2 ∷ []) (wire 0 3 0 ∷ wire 3 0 1 ∷ wire 4 1 0 ∷ wire 6 0 2 ∷ wire 7 2 0 ∷ wire 1 0 4 ∷ wire 2 0 5 ∷ []) [])
-    { memory = none }
+    { silent = none }
 
 -- `x` and `u.a` are a fork of the source
 fork : routes two ≡ channel 0 0 3 0 ∷ channel 3 0 3 1 ∷ channel 6 6 0 2 ∷ channel 1 4 1 4 ∷ channel 2 7 2 5 ∷ []

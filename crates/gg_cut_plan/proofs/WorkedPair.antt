@@ -19,14 +19,15 @@ use Rattle.gg_partfile.specs.Request.{no_request}
 use Rattle.gg_cut_plan.specs.declared.fault.CutFault.TheVariants.{UnknownUnit, Doubled, OtherModule, UnknownMemory, UnknownChannel, OutOfRange, UnknownPipe, DoubledPipe, UnknownClock, WrongRatio}
 use Rattle.gg_cut_plan.specs.declared.listed.Listed.{Listed}
 use Rattle.gg_cut_plan.specs.Listed.{listed_of, owner_of}
-use Rattle.gg_cut_plan.specs.declared.numbering.Role.TheVariants.{Source, Tray}
-use Rattle.gg_cut_plan.specs.inside.Machines.{IsRole, machine_count, numbering_of}
-use Rattle.gg_cut_plan.specs.Machines.{first_unit, first_memory, first_source, first_tray}
+use Rattle.gg_cut_plan.specs.declared.numbering.Role.TheVariants.{Source, Tray, Bridge}
+use Rattle.gg_cut_plan.specs.inside.Machines.{IsRole}
+use Rattle.gg_cut_plan.specs.Machines.{first_unit, first_memory, first_source}
+use Rattle.gg_cut_plan.specs.Ports.{first_kept_tray, machine_end, ports_of}
+use Rattle.gg_cut_plan.specs.inside.Ports.{counts_of}
 use Rattle.gg_cut_plan.specs.Clocks.{ratios_of}
 use Rattle.gg_cut_plan.specs.Channels.{wire, wires_of, channel_names, capacity_of}
 use Rattle.gg_cut_plan.specs.inside.Channels.{channel_signals}
-use Rattle.gg_cut_plan.specs.Direct.{plan_signals}
-use Rattle.gg_cut_plan.specs.Seated.{plan_wires}
+use Rattle.gg_cut_plan.specs.Direct.{plan_signals, plan_wires}
 use Rattle.gg_cut_plan.specs.Fault.{fault_in, too_many_units}
 
 abbrev pub input : ℕ → InstancePort
@@ -92,18 +93,24 @@ owners = refl
 -- ---- the channels
 
 -- the hub is machine 0, `a` and `b` are 1 and 2, the source of `x` is 3, the tray of `q` is 4
-wires : wires_of circuit tree listed ≡ wire 0 3 0 ∷ wire 2 0 1 ∷ wire 3 0 1 ∷ wire 4 1 0 ∷ wire 5 1 0 ∷ wire 6 0 2 ∷ wire 7 2 0 ∷ wire 1 0 4 ∷ []
+wires : wires_of circuit tree listed [] ≡ wire 0 3 0 ∷ wire 2 0 1 ∷ wire 3 0 1 ∷ wire 4 1 0 ∷ wire 5 1 0 ∷ wire 6 0 2 ∷ wire 7 2 0 ∷ wire 1 0 4 ∷ []
 wires = refl
 
-numbers : first_unit ∷ first_memory listed ∷ first_source listed ∷ first_tray circuit listed ∷ machine_count circuit listed ∷ [] ≡ 1 ∷ 3 ∷ 3 ∷ 4 ∷ 5 ∷ []
+numbers : first_unit ∷ first_memory listed ∷ first_source listed ∷ first_kept_tray (ports_of circuit tree listed []) ∷ machine_end (ports_of circuit tree listed []) ∷ [] ≡ 1 ∷ 3 ∷ 3 ∷ 4 ∷ 5 ∷ []
 numbers = refl
 
-the-source : IsRole (numbering_of circuit listed) 3 (Source 0)
+the-source : IsRole (counts_of listed (ports_of circuit tree listed [])) 3 (Source 0)
 the-source = (omega arith, refl)
 
 -- nor is it the tray, which comes behind it
-no-tray : ¬ IsRole (numbering_of circuit listed) 3 (Tray 0)
+no-tray : ¬ IsRole (counts_of listed (ports_of circuit tree listed [])) 3 (Tray 0)
 no-tray is = absurd (omega (arith, is.1))
+
+the-tray : IsRole (counts_of listed (ports_of circuit tree listed [])) 4 (Tray 0)
+the-tray = (omega arith, refl)
+
+no-bridge : ¬ IsRole (counts_of listed (ports_of circuit tree listed [])) 5 (Bridge 0)
+no-bridge is = absurd (omega (arith, is.0))
 
 names : channel_names circuit (channel_signals circuit tree listed) ≡ codes "x" ∷ codes "a.x" ∷ codes "a.k" ∷ codes "a.p" ∷ codes "a.q" ∷ codes "b.m" ∷ codes "b.n" ∷ codes "q" ∷ []
 names = refl
@@ -116,14 +123,14 @@ direct-wires : plan_wires circuit tree direct_units ≡ record { signal = 2; giv
 direct-wires = refl
 
 -- not asked for: all channels stay
-plain-wires : plan_wires circuit tree both_units ≡ wires_of circuit tree listed
+plain-wires : plan_wires circuit tree both_units ≡ wires_of circuit tree listed []
 plain-wires = refl
 
 direct-names : channel_names circuit (plan_signals circuit tree direct_units) ≡ codes "a.x" ∷ codes "a.k" ∷ codes "b.m" ∷ codes "q" ∷ []
 direct-names = refl
 
 -- the empty partition: the channels from the source and to the tray
-alone : wires_of circuit tree (listed_of tree (asks [] [])) ≡ wire 0 1 0 ∷ wire 1 0 2 ∷ []
+alone : wires_of circuit tree (listed_of tree (asks [] [])) [] ≡ wire 0 1 0 ∷ wire 1 0 2 ∷ []
 alone = refl
 
 capacities : map (capacity_of ((codes "a.x", 7) ∷ (codes "q", 1) ∷ []) 2) (codes "a.x" ∷ codes "a.k" ∷ codes "q" ∷ []) ≡ 7 ∷ 2 ∷ 1 ∷ []

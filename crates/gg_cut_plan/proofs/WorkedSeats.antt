@@ -1,5 +1,5 @@
 -- A bridge at the ports of a circuit: the machines' numbers, names and channels, and the faults of bridges, worked by hand.
-use Rattle.std.proofs.Common.{◌≡◌, ℕ, List, [], ◌∷◌, Option, Some, None, refl, arith}
+use Rattle.std.proofs.Common.{◌≡◌, ℕ, List, [], ◌∷◌, Option, Some, None, refl, arith, true}
 use Rattle.std.specs.Prelude.{codes, map, option_map}
 use Rattle.gg_bits.specs.declared.types.Ty.{Ty}
 use Rattle.gg_flat.specs.declared.piece.Driver.TheVariants.{Input, Held}
@@ -17,9 +17,11 @@ use Rattle.gg_cut_plan.specs.Bridges.{Models, bridge_faults}
 use Rattle.gg_cut_plan.specs.Fault.{fault_text, first_fault_with}
 use Rattle.gg_bits.specs.Lists.{first_of}
 use Rattle.gg_cut_plan.specs.Plan.{machine_names}
-use Rattle.gg_cut_plan.specs.inside.Plan.{cut_names}
-use Rattle.gg_cut_plan.specs.Seated.{Bridges, plan_bridges, plan_wires, seat_of, machine_end, first_kept_tray, first_bridge, open_ins, open_outs}
-use Rattle.gg_cut_plan.specs.inside.Seated.{IsKept}
+use Rattle.gg_cut_plan.specs.Ports.{Bridges, plan_bridges, machine_end, first_kept_tray, first_bridge, giver_of, keeper_of, open_ins, open_outs}
+use Rattle.gg_cut_plan.specs.inside.Ports.{counts_of}
+use Rattle.gg_cut_plan.specs.inside.Machines.{IsRole}
+use Rattle.gg_cut_plan.specs.declared.numbering.Role.TheVariants.{Source, Tray, Bridge}
+use Rattle.gg_cut_plan.specs.Direct.{plan_wires}
 use Rattle.gg_cut_plan.proofs.WorkedPair.{input, output}
 
 -- ---- machines
@@ -63,15 +65,8 @@ abbrev bridges : Bridges
 bridges = plan_bridges circuit tree asks
 
 -- without bridges: the hub is machine 0, the sources of `x` and `y` are 1 and 2, the trays of `p`, `q` and `s` 3 to 5
-plain : wires_of circuit tree (listed_of tree asks) ≡ wire 0 1 0 ∷ wire 1 2 0 ∷ wire 2 0 3 ∷ wire 3 0 4 ∷ wire 4 0 5 ∷ []
+plain : wires_of circuit tree (listed_of tree asks) [] ≡ wire 0 1 0 ∷ wire 1 2 0 ∷ wire 2 0 3 ∷ wire 3 0 4 ∷ wire 4 0 5 ∷ []
 plain = refl
-
-plain-names : cut_names design asks (listed_of tree asks) ≡ codes "hub:" ∷ codes "in:x" ∷ codes "in:y" ∷ codes "out:p" ∷ codes "out:q" ∷ codes "halt:s" ∷ []
-plain-names = refl
-
--- the bridge, which is behind all, takes the place of machines 1 and 4
-seats : map (seat_of bridges) (0 ∷ 1 ∷ 2 ∷ 3 ∷ 4 ∷ 5 ∷ []) ≡ 0 ∷ 4 ∷ 1 ∷ 2 ∷ 4 ∷ 3 ∷ []
-seats = refl
 
 numbers : first_kept_tray bridges ∷ first_bridge bridges ∷ machine_end bridges ∷ [] ≡ 2 ∷ 4 ∷ 5 ∷ []
 numbers = refl
@@ -82,32 +77,59 @@ names = refl
 wires : plan_wires circuit tree asks ≡ wire 0 4 0 ∷ wire 1 1 0 ∷ wire 2 0 2 ∷ wire 3 0 4 ∷ wire 4 0 3 ∷ []
 wires = refl
 
+-- the source of `y` is behind no source of `x`, and the tray of the stop is behind that of `p`
+givers : map (giver_of bridges) (0 ∷ 1 ∷ []) ≡ 4 ∷ 1 ∷ []
+givers = refl
+
+keepers : map (keeper_of bridges) (0 ∷ 1 ∷ 2 ∷ []) ≡ 2 ∷ 4 ∷ 3 ∷ []
+keepers = refl
+
 open-ins : open_ins circuit asks ≡ 1 ∷ []
 open-ins = refl
 
 open-outs : open_outs circuit 2 asks ≡ 2 ∷ []
 open-outs = refl
 
--- the source of `y` doesn't keep its number, and that of `x` is no machine of the plan
-moved : ¬ (seat_of bridges 2 ≡ 2)
-moved is = absurd (omega (arith, is))
+-- the bridge gives no input that it doesn't drive
+not-driven : ¬ (giver_of bridges 1 ≡ 4)
+not-driven is = absurd (omega (arith, is))
 
-gone : ¬ IsKept bridges 1
-gone kept = absurd (omega (arith, kept))
+counts : counts_of (listed_of tree asks) bridges ≡ record { units = 0; memories = 0; sources = 1; trays = 2; bridges = 1 }
+counts = refl
+
+the-source : IsRole (counts_of (listed_of tree asks) bridges) 1 (Source 0)
+the-source = (omega arith, refl)
+
+the-stop : IsRole (counts_of (listed_of tree asks) bridges) 3 (Tray 1)
+the-stop = (omega arith, refl)
+
+the-bridge : IsRole (counts_of (listed_of tree asks) bridges) 4 (Bridge 0)
+the-bridge = (omega arith, refl)
+
+no-second : ¬ IsRole (counts_of (listed_of tree asks) bridges) 2 (Source 1)
+no-second is = absurd (omega (arith, is.0))
+
+-- With direct channels `x`, which the bridge drives, is no origin, so `p` comes from the hub. `y` goes to the bridge from its source, and to the hub
+-- for the stop, which is never direct.
+direct-wires : plan_wires circuit tree (record asks { direct = true }) ≡ wire 0 4 0 ∷ wire 1 1 0 ∷ wire 2 0 2 ∷ record { signal = 3; given = 1; producer = 1; consumer = 4 } ∷ wire 4 0 3 ∷ []
+direct-wires = refl
 
 -- a stop is no output, so a bridge that lists it doesn't see it
 abbrev sees_stop : Request
 sees_stop = record no_request { bridges = entry (codes "e") (codes "s" ∷ []) [] ∷ [] }
 
-stop-stays : map (seat_of (plan_bridges circuit tree sees_stop)) (3 ∷ 4 ∷ 5 ∷ []) ≡ 3 ∷ 4 ∷ 5 ∷ []
-stop-stays = refl
+stop-kept : wires_of circuit tree (listed_of tree sees_stop) sees_stop.bridges ≡ wire 0 1 0 ∷ wire 1 2 0 ∷ wire 2 0 3 ∷ wire 3 0 4 ∷ wire 4 0 5 ∷ []
+stop-kept = refl
+
+stop-seen : ¬ (keeper_of (plan_bridges circuit tree sees_stop) 2 ≡ 6)
+stop-seen is = absurd (omega (arith, is))
 
 -- a port that two entries list is the first one's, though such a request has a fault
 abbrev sees_twice : Request
 sees_twice = record no_request { bridges = entry (codes "e") (codes "q" ∷ []) [] ∷ entry (codes "f") (codes "q" ∷ codes "p" ∷ []) [] ∷ [] }
 
-first-sees : map (seat_of (plan_bridges circuit tree sees_twice)) (3 ∷ 4 ∷ 5 ∷ []) ≡ 5 ∷ 4 ∷ 3 ∷ []
-first-sees = refl
+first-takes : map (keeper_of (plan_bridges circuit tree sees_twice)) (0 ∷ 1 ∷ 2 ∷ []) ≡ 5 ∷ 4 ∷ 3 ∷ []
+first-takes = refl
 
 -- ---- faults
 

@@ -8,10 +8,12 @@ use Rattle.gg_flat.specs.declared.memory.Writer.{Writer}
 use Rattle.gg_flat.specs.Circuit.{FlatCircuit, readers_at}
 use Rattle.gg_flat_tree.specs.Tree.{InstanceTree, path_at, instance_at, memory_at, parent_place}
 use Rattle.gg_flat_tree.specs.Scoped.{writers_at}
+use Rattle.gg_partfile.specs.declared.request.BridgeEntry.{BridgeEntry}
 use Rattle.gg_cut_plan.specs.declared.wires.Wire.{Wire}
 use Rattle.gg_cut_plan.specs.declared.listed.Listed.{Listed}
 use Rattle.gg_cut_plan.specs.Listed.{owner_of_instance, owner_of}
-use Rattle.gg_cut_plan.specs.Machines.{first_unit, first_memory, first_source, first_tray}
+use Rattle.gg_cut_plan.specs.Machines.{first_unit, first_memory}
+use Rattle.gg_cut_plan.specs.Ports.{Bridges, giver_of, keeper_of, ports_of}
 
 -- a channel of a signal, with the machines at its two ends: the producer gives the signal that the consumer takes
 abbrev pub wire : ℕ → ℕ → ℕ → Wire
@@ -54,22 +56,22 @@ field_wires circuit tree units number j =
     flattened (reader_wires outside number) (readers_at circuit (memory_at tree j).memory)
     ++ flattened (writer_wires outside number) (writers_at circuit (memory_at tree j).memory)
 
--- the one channel of a source, which gives its top input to the hub, machine 0
-abbrev pub source_wires : ℕ → ℕ → List Wire
-source_wires number signal = wire signal number 0 ∷ []
+-- the channel of a top input: to the hub, machine 0, from the input's source, or from the bridge that drives the input
+abbrev pub input_wires : Bridges → ℕ → ℕ → List Wire
+input_wires b place signal = wire signal (giver_of b place) 0 ∷ []
 
--- a tray takes a top output from the signal's owner
-abbrev pub tray_wires : FlatCircuit → InstanceTree → Listed → ℕ → ℕ → List Wire
-tray_wires circuit tree listed number signal = wire signal (owner_of circuit tree listed signal) number ∷ []
+-- the channel of an out-signal: from its owner to its tray, or to the bridge that sees it
+abbrev pub output_wires : FlatCircuit → InstanceTree → Listed → Bridges → ℕ → ℕ → List Wire
+output_wires circuit tree listed b place signal = wire signal (owner_of circuit tree listed signal) (keeper_of b place) ∷ []
 
 -- The channels in their order: each top input; each unit's ports, in port order; each listed memory's fields; each
--- top output.
-abbrev pub wires_of : FlatCircuit → InstanceTree → Listed → List Wire
-wires_of circuit tree listed =
-    numbered source_wires (first_source listed) circuit.ins
+-- out-signal of the top, its outputs before its stops.
+abbrev pub wires_of : FlatCircuit → InstanceTree → Listed → List BridgeEntry → List Wire
+wires_of circuit tree listed entries =
+    numbered (input_wires (ports_of circuit tree listed entries)) 0 circuit.ins
     ++ (numbered (port_wires tree listed.units) first_unit listed.units
     ++ (numbered (field_wires circuit tree listed.units) (first_memory listed) listed.memories
-    ++ numbered (tray_wires circuit tree listed) (first_tray circuit listed) circuit.outs))
+    ++ numbered (output_wires circuit tree listed (ports_of circuit tree listed entries)) 0 circuit.outs))
 
 -- a channel is named by its signal's path
 abbrev pub channel_names : FlatCircuit → List ℕ → List (List ℕ)

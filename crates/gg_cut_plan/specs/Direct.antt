@@ -5,7 +5,7 @@
 -- Source: MEMOCODE 2009 (a fork: one out-signal of a node on several channels); this program's profile for which
 -- channels are direct.
 use Rattle.gg_order.specs.Found.{line_names}
-use Rattle.std.specs.Prelude.{ℕ, zero, suc, List, [], ◌∷◌, ◌++◌, Bool, true, false, not, ◌||◌, ◌&&◌, ◌==◌, if◌then◌else◌, Option, Some, None, length, map, filter, flat_map, find, option_and_then, is_some, slice_get}
+use Rattle.std.specs.Prelude.{ℕ, zero, suc, List, [], ◌∷◌, ◌++◌, Bool, false, not, ◌||◌, ◌&&◌, ◌==◌, if◌then◌else◌, Option, Some, None, length, map, filter, flat_map, find, option_and_then, is_some, slice_get, nat_le}
 use Rattle.std.specs.List.{list_any, range_with_len}
 use Rattle.gg_flat.specs.declared.line.Node.{Node}
 use Rattle.gg_flat.specs.declared.line.Op.{Op}
@@ -19,11 +19,12 @@ use Rattle.gg_flat.specs.Circuit.{FlatCircuit, signal_shapes, driver_at}
 use Rattle.gg_flat_tree.specs.Tree.{InstanceTree, memory_at, path_at}
 use Rattle.gg_flat_tree.specs.Scoped.{memory_fields, stop_signals}
 use Rattle.gg_partfile.specs.declared.request.Request.{Request}
-use Rattle.gg_partfile.specs.Size.{all_driven}
+use Rattle.gg_partfile.specs.declared.request.BridgeEntry.{BridgeEntry}
 use Rattle.gg_cut_plan.specs.declared.wires.Wire.{Wire}
 use Rattle.gg_cut_plan.specs.declared.listed.Listed.{Listed}
 use Rattle.gg_cut_plan.specs.Listed.{is_among, listed_of, owner_of, memory_owner}
 use Rattle.gg_cut_plan.specs.Machines.{is_memory}
+use Rattle.gg_cut_plan.specs.Ports.{Bridges, first_bridge, ports_of}
 use Rattle.gg_cut_plan.specs.Channels.{wires_of}
 
 -- ---- what a driver names
@@ -89,9 +90,9 @@ copied circuit s = if_wide circuit s (bare_of (driver_at circuit s))
 -- ---- routing
 
 -- What the routing looks at: the circuit, the owner of each signal, the channels before, the fields of the hub's memories, the signals of the stops,
--- and which machines are listed memories. `piped` says which signals have a channel with a token in it at the start: the hub takes such a signal a
--- cycle later than its producer gives it, so it is no origin. `driven` says which inputs a bridge drives: a bridge is no producer of an origin.
--- `direct` says whether channels are to be direct at all.
+-- and which machines are silent: a listed memory or a bridge is no producer of an origin. `piped` says which signals have a channel with a token in it
+-- at the start: the hub takes such a signal a cycle later than its producer gives it, so it is no origin. `direct` says whether channels are to be
+-- direct at all.
 pub record Hub : Type 0 where
   pub circuit : FlatCircuit
   -- the owner of a signal; the hub is machine 0
@@ -101,10 +102,9 @@ pub record Hub : Type 0 where
   -- the fields of the memories that belong to the hub
   pub held : List ℕ
   pub stops : List ℕ
-  -- whether a machine is a listed memory
-  pub memory : ℕ → Bool
+  -- whether a machine produces no origin
+  pub silent : ℕ → Bool
   pub piped : ℕ → Bool
-  pub driven : ℕ → Bool
   pub direct : Bool
 
 -- the hub takes signal s
@@ -128,11 +128,11 @@ abbrev pub named_by : Hub → List ℕ → List ℕ
 named_by hub signals = flat_map (λ s. driver_names hub.circuit (driver_at hub.circuit s)) signals ++ hub.held
 
 -- The in-channel of the hub at the end of a chain of copies from signal s, if the chain has at most this many signals. An
--- in-channel that isn't piped and that no bridge drives is its own end.
+-- in-channel that isn't piped is its own end.
 abbrev pub origin_within : Hub → ℕ → ℕ → Option ℕ
 origin_within hub zero s = None
 origin_within hub (suc more) s =
-    if is_taken hub s then (if hub.piped s || hub.driven s then None else Some s)
+    if is_taken hub s then (if hub.piped s then None else Some s)
     else (if is_own hub s then option_and_then (origin_within hub more) (copied hub.circuit s) else None)
 
 -- The origin of an in-channel or a copy. Each signal of the chain reads the next, so the chain has at most as many signals as
@@ -149,17 +149,17 @@ giver_or (Some w) = w.producer
 abbrev pub giver : Hub → ℕ → ℕ
 giver hub s = giver_or (find (λ w. w.signal == s) hub.base)
 
--- an in-channel that no memory gives
+-- an in-channel that a source or a unit gives
 abbrev pub if_plain : Hub → Option ℕ → Option ℕ
 if_plain hub None = None
-if_plain hub (Some x) = if hub.memory (giver hub x) then None else Some x
+if_plain hub (Some x) = if hub.silent (giver hub x) then None else Some x
 
 -- The hub gives the channel, and its signal is no stop's and is named by nothing in the hub.
 abbrev pub may_be_direct : Hub → Wire → Bool
 may_be_direct hub w = (hub.direct && (w.producer == 0)) && not (list_any (λ t. w.signal == t) (named_by hub (made hub) ++ hub.stops))
 
 -- The in-channel that is given in place of an out-channel of the hub, if the out-channel is direct: its driver is a bare reference to an in-channel
--- or a copy, and no memory gives the origin.
+-- or a copy, and a source or a unit gives the origin.
 abbrev pub direct_of : Hub → Wire → Option ℕ
 direct_of hub w = if may_be_direct hub w then if_plain hub (option_and_then (origin hub) (copied hub.circuit w.signal)) else None
 
@@ -208,18 +208,21 @@ hub_fields circuit tree listed =
     flat_map (λ j. memory_fields circuit (memory_at tree j).memory)
     (filter (λ j. memory_owner tree listed j == 0) (range_with_len 0 (length tree.memories)))
 
--- what the routing looks at in a cut: which channels are piped, which inputs are driven, and whether channels are to be direct
-abbrev pub hub_of : FlatCircuit → InstanceTree → Listed → (piped driven : ℕ → Bool) → Bool → Hub
-hub_of circuit tree listed piped driven direct =
+-- a machine that produces no origin: a listed memory, or a bridge
+abbrev pub is_silent : Listed → Bridges → ℕ → Bool
+is_silent listed b m = is_memory listed m || nat_le (first_bridge b) m
+
+-- what the routing looks at in a cut: which channels are piped, the entries of bridges, and whether channels are to be direct
+abbrev pub hub_of : FlatCircuit → InstanceTree → Listed → (piped : ℕ → Bool) → List BridgeEntry → Bool → Hub
+hub_of circuit tree listed piped entries direct =
     record {
       circuit = circuit;
       owner = owner_of circuit tree listed;
-      base = wires_of circuit tree listed;
+      base = wires_of circuit tree listed entries;
       held = hub_fields circuit tree listed;
       stops = stop_signals tree;
-      memory = is_memory listed;
+      silent = is_silent listed (ports_of circuit tree listed entries);
       piped = piped;
-      driven = driven;
       direct = direct;
     }
 
@@ -229,27 +232,14 @@ hub_of circuit tree listed piped driven direct =
 abbrev pub is_piped : FlatCircuit → Request → ℕ → Bool
 is_piped circuit request s = is_among request.pipe (path_at circuit.paths s)
 
--- whether a driver is an input of the circuit
-abbrev pub is_input : Driver → Bool
-is_input (Input place) = true
-is_input (Held register) = false
-is_input (MemoryWord memory reader addr en) = false
-is_input (ReadRegister memory reader) = false
-is_input (Computed line) = false
-
--- A bridge of the request drives signal s, which is a top input.
-abbrev pub is_driven : FlatCircuit → Request → ℕ → Bool
-is_driven circuit request s = is_input (driver_at circuit s) && is_among (all_driven request.bridges) (path_at circuit.paths s)
-
 -- the hub of a request's cut
 abbrev pub plan_hub : FlatCircuit → InstanceTree → Request → Hub
-plan_hub circuit tree request = hub_of circuit tree (listed_of tree request) (is_piped circuit request) (is_driven circuit request) request.direct
+plan_hub circuit tree request = hub_of circuit tree (listed_of tree request) (is_piped circuit request) request.bridges request.direct
 
--- The channels of the plan, between the machines of the cut: the cut's channels, routed if the request has direct channels. The machines have the
--- numbers that they have without bridges.
-abbrev pub plan_routes : FlatCircuit → InstanceTree → Request → List Wire
-plan_routes circuit tree request = routes (plan_hub circuit tree request)
+-- the channels of the plan, between its machines: the cut's channels, routed if the request has direct channels
+abbrev pub plan_wires : FlatCircuit → InstanceTree → Request → List Wire
+plan_wires circuit tree request = routes (plan_hub circuit tree request)
 
 -- the signals that the consumers of the plan's channels take
 abbrev pub plan_signals : FlatCircuit → InstanceTree → Request → List ℕ
-plan_signals circuit tree request = map (λ w. w.signal) (plan_routes circuit tree request)
+plan_signals circuit tree request = map (λ w. w.signal) (plan_wires circuit tree request)

@@ -2,13 +2,13 @@ pub mod Machines
 pub mod Listed
 pub mod Clocks
 pub mod Fault
+pub mod Ports
 pub mod Channels
 pub mod Hosts
 pub mod Alike
 pub mod Direct
 pub mod Models
 pub mod Bridges
-pub mod Seated
 pub mod Plan
 pub mod Solves
 pub mod Held

@@ -1,9 +1,8 @@
 -- The machines of a cut by number: the hub, the units in the order of the request, the listed memories in the order of the tree,
--- a source for each top input, a tray for each top output.
+-- a source for each top input that no bridge drives, a tray for each top output that no bridge sees and for each stop, and the bridges.
 -- Source: MEMOCODE 2009 (the nodes of a network); ICCAD 2019 (units and memories of a target as models of their own, with sources
 -- for its inputs and sinks for its outputs).
 use Rattle.std.specs.Prelude.{ℕ, suc, ◌+◌, Bool, ◌&&◌, length, nat_le, nat_lt}
-use Rattle.gg_flat.specs.Circuit.{FlatCircuit}
 use Rattle.gg_cut_plan.specs.declared.listed.Listed.{Listed}
 
 -- ---- the number of a unit by its place; and the first number of each kind, after these many machines of the earlier kinds
@@ -24,10 +23,6 @@ memory_after units = suc units
 abbrev pub source_after : (units memories : ℕ) → ℕ
 source_after units memories = memory_after units + memories
 
--- the first tray, after the sources, one for each top input
-abbrev pub tray_after : (units memories ins : ℕ) → ℕ
-tray_after units memories ins = source_after units memories + ins
-
 -- ---- in a cut
 
 -- the first listed memory of a cut
@@ -37,10 +32,6 @@ first_memory listed = memory_after (length listed.units)
 -- the first source of a cut
 abbrev pub first_source : Listed → ℕ
 first_source listed = source_after (length listed.units) (length listed.memories)
-
--- the first tray of a cut
-abbrev pub first_tray : FlatCircuit → Listed → ℕ
-first_tray circuit listed = tray_after (length listed.units) (length listed.memories) (length circuit.ins)
 
 -- whether machine m is a listed memory
 abbrev pub is_memory : Listed → ℕ → Bool

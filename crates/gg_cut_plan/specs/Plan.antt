@@ -1,7 +1,7 @@
 -- The plan of a cut: its machines with their pieces, its channels, and what each channel needs.
 -- Source: MEMOCODE 2009 (a network of machines that are latency-insensitive: an output depends only on the inputs
 -- that it is computed from); ICCAD 2019 (instances and memories of a target as models of their own).
-use Rattle.std.specs.Prelude.{◌≡◌, ◌≢◌, ◌↔◌, ◌⊎◌, ℕ, ◌<◌, ◌≤◌, ◌+◌, ◌-◌, ◌^◌, List, [], ◌∷◌, Bool, Option, Some, unwrap_or, false, ◌++◌, ◌==◌, length, map, take, drop, filter, codes, slice_index_or, Contains, AllPairs}
+use Rattle.std.specs.Prelude.{◌≡◌, ◌≢◌, ◌↔◌, ◌⊎◌, ℕ, ◌<◌, ◌≤◌, ◌+◌, ◌-◌, ◌^◌, List, [], ◌∷◌, Bool, Option, Some, unwrap_or, false, ◌++◌, ◌==◌, length, map, drop, filter, codes, slice_index_or, Contains, AllPairs}
 use Rattle.std.specs.List.{range_with_len}
 use Rattle.gg_bits.specs.Shape.{shape}
 use Rattle.gg_flat.specs.Line.{value_at, shape_at}
@@ -25,12 +25,12 @@ use Rattle.gg_cut_plan.specs.declared.plan.Plan.{Plan}
 use Rattle.gg_cut_plan.specs.declared.listed.Listed.{Listed}
 use Rattle.gg_cut_plan.specs.Listed.{listed_of, memory_owner, place_of}
 use Rattle.gg_cut_plan.specs.declared.wires.Wire.{Wire}
-use Rattle.gg_cut_plan.specs.Machines.{first_memory, first_source, first_tray}
+use Rattle.gg_cut_plan.specs.Machines.{first_memory, first_source}
 use Rattle.gg_cut_plan.specs.Channels.{wire, capacity_of}
 use Rattle.gg_cut_plan.specs.Clocks.{ratios_of}
-use Rattle.gg_cut_plan.specs.Direct.{Hub, routes, is_gone, is_piped, plan_hub}
+use Rattle.gg_cut_plan.specs.Direct.{Hub, routes, is_gone, is_piped, plan_hub, plan_wires}
 use Rattle.gg_cut_plan.specs.Bridges.{Models, model_named}
-use Rattle.gg_cut_plan.specs.Seated.{first_bridge, first_kept_tray, machine_end, open_ins, open_outs, output_count, plan_bridges, plan_wires}
+use Rattle.gg_cut_plan.specs.Ports.{first_bridge, first_kept_tray, machine_end, open_ins, open_outs, output_count, plan_bridges}
 use Rattle.gg_cut_plan.specs.Hosts.{host_of}
 use Rattle.gg_cut_plan.specs.Alike.{AreAlike}
 
@@ -100,15 +100,6 @@ pub record IsCutPart (design : Ordered) (listed : Listed) (hub : Hub) (m : ℕ) 
   pub memories : (k : ℕ) → Contains part.memories k ↔ HasMemory design.tree listed m k
   pub ordered : IsInOrder part.piece
 
--- What machine m of the cut without bridges is, by its number: the hub or a unit, a listed memory, the source of the top input at a
--- place, or a tray.
-abbrev pub IsCutBody : Ordered → Listed → Hub → ℕ → Body → Type 0
-IsCutBody design listed hub m (Cut part) = (m < first_memory listed) × IsCutPart design listed hub m part
-IsCutBody design listed hub m (Memory part) = (first_memory listed ≤ m) × (m < first_source listed) × IsCutPart design listed hub m part
-IsCutBody design listed hub m (Source place) = (place < length design.circuit.ins) × (m ≡ first_source listed + place)
-IsCutBody design listed hub m Tray = first_tray design.circuit listed ≤ m
-IsCutBody design listed hub m (Bridge bridge) = ⊥
-
 -- the place of a port in an entry's list; 0 if it isn't there
 abbrev pub port_place : List (List ℕ) → List ℕ → ℕ
 port_place ports name = unwrap_or (place_of ports name) 0
@@ -126,16 +117,16 @@ pub record IsBridgeBody (design : Ordered) (request : Request) (models : Models)
   pub ins : bridge.ins ≡ map (λ c. port_place (entry_at request.bridges k).sees (path_at design.circuit.paths (wire_at wires c).signal)) (channels_to wires m)
   pub outs : bridge.outs ≡ map (λ c. port_place (entry_at request.bridges k).drives (path_at design.circuit.paths (wire_at wires c).signal)) (channels_from wires m)
 
--- What machine m of the plan is, by its number: the hub, a unit or a listed memory of the cut; the source of a top input, by its place among the
+-- What machine m of the plan is, by its number: the hub, a unit or a listed memory; the source of a top input, by its place among the
 -- inputs that no bridge drives, which are the columns of the trace; a tray; or a bridge.
 abbrev pub IsBody : Ordered → Request → Models → Listed → Hub → ℕ → Body → Type 0
-IsBody design request models listed hub m (Cut part) = IsCutBody design listed hub m (Cut part)
-IsBody design request models listed hub m (Memory part) = IsCutBody design listed hub m (Memory part)
+IsBody design request models listed hub m (Cut part) = (m < first_memory listed) × IsCutPart design listed hub m part
+IsBody design request models listed hub m (Memory part) = (first_memory listed ≤ m) × (m < first_source listed) × IsCutPart design listed hub m part
 IsBody design request models listed hub m (Source place) = (place < length (open_ins design.circuit request)) × (m ≡ first_source listed + place)
 IsBody design request models listed hub m Tray = (first_kept_tray (plan_bridges design.circuit design.tree request) ≤ m) × (m < first_bridge (plan_bridges design.circuit design.tree request))
 IsBody design request models listed hub m (Bridge bridge) =
     (first_bridge (plan_bridges design.circuit design.tree request) ≤ m)
-    × IsBridgeBody design request models (plan_wires design.circuit design.tree request) m (m - first_bridge (plan_bridges design.circuit design.tree request)) bridge
+    × IsBridgeBody design request models (routes hub) m (m - first_bridge (plan_bridges design.circuit design.tree request)) bridge
 
 -- ---- machines
 
@@ -162,8 +153,8 @@ pub record IsMachine (design : Ordered) (request : Request) (models : Models) (l
   pub host : machine.host ≡ host_of request.units request.share m
   pub body : IsBody design request models listed hub m machine.body
   -- the channels that it takes, and the channels that it gives, in the order of the plan's channels
-  pub ins : machine.ins ≡ channels_to (plan_wires design.circuit design.tree request) m
-  pub outs : machine.outs ≡ channels_from (plan_wires design.circuit design.tree request) m
+  pub ins : machine.ins ≡ channels_to (routes hub) m
+  pub outs : machine.outs ≡ channels_from (routes hub) m
 
 -- ---- channels
 

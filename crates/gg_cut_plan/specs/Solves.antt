@@ -1,7 +1,7 @@
 -- When lists of values, one for each channel, solve a plan, from any start.
 -- Source: MEMOCODE 2009 (a network of machines has the streams of the synchronous circuit that it was cut from; a token at the start
 -- comes before what a producer gives).
-use Rattle.std.specs.Prelude.{◌≡◌, ℕ, ◌<◌, ◌≤◌, ◌++◌, List, [], ◌∷◌, Bool, if◌then◌else◌, drop, length, map, replicate, take}
+use Rattle.std.specs.Prelude.{◌≡◌, ℕ, ◌<◌, ◌≤◌, ◌++◌, List, [], ◌∷◌, Bool, if◌then◌else◌, drop, length, map, replicate}
 use Rattle.gg_flat.specs.Circuit.{FlatCircuit}
 use Rattle.gg_flat.specs.Line.{value_at}
 use Rattle.gg_flat.specs.Run.{IsRunFrom, Start, column, row_at, since}

@@ -7,5 +7,5 @@ pub mod Direct
 pub mod Listed
 pub mod Machines
 pub mod Plan
-pub mod Seated
+pub mod Ports
 pub mod Solves

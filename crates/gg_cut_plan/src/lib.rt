@@ -6,7 +6,7 @@
 //! - what a request lists, by places in the tree of instances (Listed);
 //! - which ratios the clocks of the circuit have (Clocks);
 //! - which faults it has, and in what order they are reported (Fault);
-//! - which machines there are, and what their numbers are (Machines);
+//! - which machines there are, and what their numbers are (Machines), and which of them have the ports of the top (Ports);
 //! - which channels there are, and between which machines (Channels); which of them are direct, and what leaves the hub (Direct);
 //! - who shares a host (Hosts);
 //! - what the plan is: the machines with their pieces, the channels and their needs (Plan).

@@ -1,10 +1,5 @@
-pub mod SeatedLemmas
-pub mod WireLemmas
-pub mod LowLemmas
 pub mod FittingLemmas
 pub mod AttachLemmas
-pub mod BridgeLemmas
-pub mod CountLemmas
 pub mod OpenLemmas
 pub mod NameLemmas
 pub mod PortLemmas

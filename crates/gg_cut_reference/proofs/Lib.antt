@@ -18,6 +18,7 @@ pub mod NothingLemmas
 pub mod AgreeLemmas
 pub mod SideLemmas
 pub mod OneLemmas
+pub mod EntryLemmas
 pub mod OneReference
 pub mod StartLemmas
 pub mod PlanLemmas

@@ -22,6 +22,7 @@ use Rattle.gg_part.specs.inside.PartRun.{part_columns}
 use Rattle.gg_part.specs.declared.part.Part.{Part}
 use Rattle.gg_part.proofs.RenameLemmas.{part_row-at}
 use Rattle.gg_order.specs.Design.{Ordered}
+use Rattle.gg_partfile.specs.declared.request.BridgeEntry.{BridgeEntry}
 use Rattle.gg_cut_plan.specs.declared.listed.Listed.{Listed}
 use Rattle.gg_cut_plan.specs.declared.wires.Wire.{Wire}
 use Rattle.gg_cut_split.proofs.ClosedLemmas.ListLemmas.{map-cases}
@@ -54,8 +55,8 @@ pub record IsRoutedPart (hub : Hub) (m : ℕ) (part : Part) : Type 0 where
   pub ordered : IsInOrder part.piece
 
 -- a part of a cut is a machine's piece
-pub cut-part : (design : Ordered) (listed : Listed) (piped driven : ℕ → Bool) (direct : Bool) (m : ℕ) (part : Part) → IsCutPart design listed (hub_of design.circuit design.tree listed piped driven direct) m part → IsRoutedPart (hub_of design.circuit design.tree listed piped driven direct) m part
-cut-part design listed piped driven direct m part cut = record { is = cut.is; signals = cut.signals; ins = cut.ins; outs = cut.outs; held = cut.held; ordered = cut.ordered }
+pub cut-part : (design : Ordered) (listed : Listed) (piped : ℕ → Bool) (entries : List BridgeEntry) (direct : Bool) (m : ℕ) (part : Part) → IsCutPart design listed (hub_of design.circuit design.tree listed piped entries direct) m part → IsRoutedPart (hub_of design.circuit design.tree listed piped entries direct) m part
+cut-part design listed piped entries direct m part cut = record { is = cut.is; signals = cut.signals; ins = cut.ins; outs = cut.outs; held = cut.held; ordered = cut.ordered }
 
 module _ (hub : Hub) (base : IsBase hub) (all : FlatCircuit) (holder keeper : ℕ → ℕ) (reference : IsReference hub.circuit all (views_of hub holder keeper) (pipes_of hub)) (formed : IsWellFormed hub.circuit) (m : ℕ) (part : Part) (cut : IsRoutedPart hub m part) (holders : AreHolders hub holder keeper m part.memories) where
   -- a signal of the part that isn't an input isn't taken

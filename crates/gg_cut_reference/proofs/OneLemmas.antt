@@ -1,5 +1,5 @@
 -- Where the driver of a signal stands in a cut, and which machines take a pipe.
-use Rattle.std.proofs.Common.{◌≡◌, ◌≢◌, ℕ, suc, ◌+◌, ◌<◌, List, Bool, true, false, None, length, refl, sym, ◌∙◌, ap, subst, inl, inr, ◌⊎◌, eq-eqb, arith}
+use Rattle.std.proofs.Common.{◌≡◌, ◌≢◌, ℕ, suc, ◌+◌, ◌<◌, List, [], Bool, true, false, None, length, refl, sym, ◌∙◌, ap, subst, inl, inr, ◌⊎◌, eq-eqb, arith}
 use Rattle.std.specs.Prelude.{◌&&◌, ◌==◌, if◌then◌else◌, flat_map, Contains}
 use Rattle.std.specs.List.{list_any}
 use Rattle.std.proofs.lemmas.Bool.{cases_Bool, and_parts, and_from, eqb-true}
@@ -13,6 +13,7 @@ use Rattle.gg_flat.specs.Circuit.{FlatCircuit, driver_at, readers_at, reader_at}
 use Rattle.gg_flat.specs.WellFormed.{IsWellFormed}
 use Rattle.gg_flat_tree.specs.Tree.{InstanceTree, IsTree, instance_at, memory_at, parent_place}
 use Rattle.gg_flat_tree.specs.Scoped.{IsScoped, IsFieldOf, IsVisible, IsWritten, memory_fields, reader_fields, writer_fields, writers_at}
+use Rattle.gg_partfile.specs.declared.request.BridgeEntry.{BridgeEntry}
 use Rattle.gg_cut_plan.specs.declared.wires.Wire.{Wire}
 use Rattle.gg_cut_plan.specs.declared.listed.Listed.{Listed}
 use Rattle.gg_cut_plan.specs.Listed.{owner_of_instance, memory_owner}
@@ -24,7 +25,7 @@ use Rattle.gg_cut_plan.proofs.OriginLemmas.{any-finds, finds-any, clash}
 use Rattle.gg_cut_plan.proofs.WireLemmas.{givens-same, owner-below, unit_or_hub-below}
 use Rattle.gg_cut_split.specs.inside.Apart.{AreApart}
 use Rattle.gg_cut_split.proofs.ClosedLemmas.ListLemmas.{flattened-in, flat_map-is}
-use Rattle.gg_cut_split.proofs.ClosedLemmas.KindLemmas.{IsInto, IsWordWire, Kind, OfSource, OfPort, OfField, OfTray, outside_unit, outside_memory, kind-of, addr-wire, en-wire, data-wire}
+use Rattle.gg_cut_split.proofs.ClosedLemmas.KindLemmas.{IsInto, IsWordWire, Kind, OfInput, OfPort, OfField, OfOutput, outside_unit, outside_memory, kind-of, addr-wire, en-wire, data-wire}
 use Rattle.gg_cut_split.proofs.ClosedLemmas.MakerLemmas.{chosen-in, wire-among}
 use Rattle.gg_cut_split.proofs.ClosedLemmas.OnceLemmas.{channel-one}
 use Rattle.gg_cut_split.proofs.ClosedLemmas.PlaceLemmas.{same-bool}
@@ -44,9 +45,9 @@ not-input driver t named place e = subst (λ d. NamesSignal d t) e named
 
 -- ---- in a cut
 
-module _ (circuit : FlatCircuit) (tree : InstanceTree) (listed : Listed) (formed : IsWellFormed circuit) (fits : IsTree circuit tree) (scoped : IsScoped circuit tree) (apart : AreApart tree listed) (piped driven : ℕ → Bool) (direct : Bool) (base : IsBase (hub_of circuit tree listed piped driven direct)) where
+module _ (circuit : FlatCircuit) (tree : InstanceTree) (listed : Listed) (formed : IsWellFormed circuit) (fits : IsTree circuit tree) (scoped : IsScoped circuit tree) (apart : AreApart tree listed) (piped : ℕ → Bool) (entries : List BridgeEntry) (direct : Bool) (base : IsBase (hub_of circuit tree listed piped entries direct)) where
   abbrev hub : Hub
-  hub = hub_of circuit tree listed piped driven direct
+  hub = hub_of circuit tree listed piped entries direct
 
   abbrev home : ℕ → ℕ
   home k = owner_of_instance tree listed.units k
@@ -54,11 +55,11 @@ module _ (circuit : FlatCircuit) (tree : InstanceTree) (listed : Listed) (formed
   -- the channel of a pipe, before the routing
   record IsOn (t : ℕ) : Type 0 where
     pub wire : Wire
-    pub among : Contains (wires_of circuit tree listed) wire
+    pub among : Contains (wires_of circuit tree listed entries) wire
     pub is : wire.signal ≡ t
-    pub taking : (m : ℕ) → takes (hub_of circuit tree listed piped driven direct) m t ≡ (wire.consumer == m)
+    pub taking : (m : ℕ) → takes (hub_of circuit tree listed piped entries direct) m t ≡ (wire.consumer == m)
 
-  on : (t : ℕ) → HasPipe (hub_of circuit tree listed piped driven direct) base t → IsOn t
+  on : (t : ℕ) → HasPipe (hub_of circuit tree listed piped entries direct) base t → IsOn t
   on t h = record { wire = w.wire; among = w.among; is = of; taking = each }
     where
       w : IsRoute hub base h.wire
@@ -90,12 +91,12 @@ module _ (circuit : FlatCircuit) (tree : InstanceTree) (listed : Listed) (formed
 
   -- a driver that isn't an input's is written in an instance of the machine in which it stands, or it is that of a memory's data
   pub data Stands (s : ℕ) : Type 0 where
-    Written : (k : ℕ) → IsWritten tree k s → maker_of (hub_of circuit tree listed piped driven direct) s ≡ owner_of_instance tree listed.units k → Stands s
+    Written : (k : ℕ) → IsWritten tree k s → maker_of (hub_of circuit tree listed piped entries direct) s ≡ owner_of_instance tree listed.units k → Stands s
     Datum : (j : ℕ) → j < length tree.memories → IsDatum circuit tree j s → Stands s
 
-  producer-low : (w : Wire) → Kind circuit tree listed w → ((place : ℕ) → place < length circuit.ins → w.signal ≢ value_at circuit.ins place) → w.producer < first_source listed
-  producer-low w (OfSource f) plain = absurd (plain f.place f.known (ap (λ (v : Wire). v.signal) f.is))
-  producer-low w (OfTray f) plain = let low = owner-below circuit tree listed (value_at circuit.outs f.place) in let from = ap (λ (v : Wire). v.producer) f.is in omega (arith, low, from)
+  producer-low : (w : Wire) → Kind circuit tree listed entries w → ((place : ℕ) → place < length circuit.ins → w.signal ≢ value_at circuit.ins place) → w.producer < first_source listed
+  producer-low w (OfInput f) plain = absurd (plain f.place f.known (ap (λ (v : Wire). v.signal) f.is))
+  producer-low w (OfOutput f) plain = let low = owner-below circuit tree listed (value_at circuit.outs f.place) in let from = ap (λ (v : Wire). v.producer) f.is in omega (arith, low, from)
   producer-low w (OfPort p) plain = by p.port.is_input p.is
     where
       low : outside_unit tree listed p.unit < suc (length listed.units)
@@ -115,7 +116,7 @@ module _ (circuit : FlatCircuit) (tree : InstanceTree) (listed : Listed) (formed
       by (inr word) = let from = ap (λ (v : Wire). v.producer) word.is in let known = f.known in omega (arith, known, from)
 
   -- a driver that isn't an input's stands in the hub, a unit or a listed memory
-  pub maker-low : (s : ℕ) → ((place : ℕ) → driver_at circuit s ≢ Input place) → maker_of (hub_of circuit tree listed piped driven direct) s < first_source listed
+  pub maker-low : (s : ℕ) → ((place : ℕ) → driver_at circuit s ≢ Input place) → maker_of (hub_of circuit tree listed piped entries direct) s < first_source listed
   maker-low s plain = by (cases_Bool (list_any (λ (w : Wire). w.signal == s) hub.base))
     where
       by : (list_any (λ (w : Wire). w.signal == s) hub.base ≡ true) ⊎ (list_any (λ (w : Wire). w.signal == s) hub.base ≡ false) → maker_of hub s < first_source listed
@@ -124,7 +125,7 @@ module _ (circuit : FlatCircuit) (tree : InstanceTree) (listed : Listed) (formed
           let w = found.item in
           let of : w.signal ≡ s = eqb-true w.signal s found.passes in
           subst (λ m. m < first_source listed) (sym (maker-wire hub base w.producer s (record { wire = w; among = found.among; producer = refl; is = of })))
-          (producer-low w (kind-of circuit tree listed w found.among) (λ place known same. plain place (ap (driver_at circuit) (sym of ∙ same) ∙ (formed.ins place known).1)))
+          (producer-low w (kind-of circuit tree listed entries w found.among) (λ place known same. plain place (ap (driver_at circuit) (sym of ∙ same) ∙ (formed.ins place known).1)))
       by (inr none) = subst (λ m. m < first_source listed) (sym (maker-inner hub base s none)) (owner-below circuit tree listed s)
 
   pub stands : (s : ℕ) → s < length circuit.signals → ((place : ℕ) → driver_at circuit s ≢ Input place) → Stands s
@@ -139,56 +140,56 @@ module _ (circuit : FlatCircuit) (tree : InstanceTree) (listed : Listed) (formed
           let found = any-finds (λ (w : Wire). w.signal == s) hub.base e in
           let w = found.item in
           let of : w.signal ≡ s = eqb-true w.signal s found.passes in
-          let low = producer-low w (kind-of circuit tree listed w found.among) (λ place known same.
+          let low = producer-low w (kind-of circuit tree listed entries w found.among) (λ place known same.
           plain place (ap (driver_at circuit) (sym of ∙ same) ∙ (formed.ins place known).1)) in
           from w.producer (maker-wire hub base w.producer s (record { wire = w; among = found.among; producer = refl; is = of }))
-          (made circuit tree listed fits scoped apart w.producer s low
-          (inr (subst (λ (l : List ℕ). Contains l s) (sym (givens-same circuit tree listed (channels_from (wires_of circuit tree listed) w.producer)))
-          (subst (λ t. Contains (signals_of (wires_of circuit tree listed) (channels_from (wires_of circuit tree listed) w.producer)) t) of
-          (chosen-in (wires_of circuit tree listed) (λ (v : Wire). v.producer == w.producer) w found.among (eq-eqb w.producer w.producer refl))))))
+          (made circuit tree listed entries fits scoped apart w.producer s low
+          (inr (subst (λ (l : List ℕ). Contains l s) (sym (givens-same circuit tree listed entries (channels_from (wires_of circuit tree listed entries) w.producer)))
+          (subst (λ t. Contains (signals_of (wires_of circuit tree listed entries) (channels_from (wires_of circuit tree listed entries) w.producer)) t) of
+          (chosen-in (wires_of circuit tree listed entries) (λ (v : Wire). v.producer == w.producer) w found.among (eq-eqb w.producer w.producer refl))))))
       by (inr none) =
           from (hub.owner s) (maker-inner hub base s none)
-          (made circuit tree listed fits scoped apart (hub.owner s) s (owner-below circuit tree listed s) (inl (lt, refl, inner)))
+          (made circuit tree listed entries fits scoped apart (hub.owner s) s (owner-below circuit tree listed s) (inl (lt, refl, inner)))
         where
-          inner : IsInner (wires_of circuit tree listed) s
+          inner : IsInner (wires_of circuit tree listed entries) s
           inner c below e = clash (list_any (λ (w : Wire). w.signal == s) hub.base) (finds-any (λ (w : Wire). w.signal == s) hub.base (wire_at hub.base c) (wire-among hub.base c below) (eq-eqb (wire_at hub.base c).signal s e)) none
 
   -- ---- who takes a pipe
 
   -- the machine of an instance takes a pipe that is visible there exactly if it comes into the instance
-  pub comes : (k t : ℕ) → HasPipe (hub_of circuit tree listed piped driven direct) base t → Comes circuit tree k t → takes (hub_of circuit tree listed piped driven direct) (owner_of_instance tree listed.units k) t ≡ true
-  comes k t h c = let o = on t h in o.taking (home k) ∙ eq-eqb o.wire.consumer (home k) (sym (comes-taken circuit tree listed formed fits scoped apart k t o.wire o.among o.is c))
+  pub comes : (k t : ℕ) → HasPipe (hub_of circuit tree listed piped entries direct) base t → Comes circuit tree k t → takes (hub_of circuit tree listed piped entries direct) (owner_of_instance tree listed.units k) t ≡ true
+  comes k t h c = let o = on t h in o.taking (home k) ∙ eq-eqb o.wire.consumer (home k) (sym (comes-taken circuit tree listed entries formed fits scoped apart k t o.wire o.among o.is c))
 
-  pub taken : (k t : ℕ) → HasPipe (hub_of circuit tree listed piped driven direct) base t → IsVisible tree k t → takes (hub_of circuit tree listed piped driven direct) (owner_of_instance tree listed.units k) t ≡ true → Comes circuit tree k t
-  taken k t h seen e = let o = on t h in taken-comes circuit tree listed formed fits scoped apart k t o.wire seen o.among o.is (sym (eqb-true o.wire.consumer (home k) (sym (o.taking (home k)) ∙ e)))
+  pub taken : (k t : ℕ) → HasPipe (hub_of circuit tree listed piped entries direct) base t → IsVisible tree k t → takes (hub_of circuit tree listed piped entries direct) (owner_of_instance tree listed.units k) t ≡ true → Comes circuit tree k t
+  taken k t h seen e = let o = on t h in taken-comes circuit tree listed entries formed fits scoped apart k t o.wire seen o.among o.is (sym (eqb-true o.wire.consumer (home k) (sym (o.taking (home k)) ∙ e)))
 
   -- the machine of a memory takes a pipe in a field of the memory, unless it is its data
-  pub field-taken : (j t : ℕ) → j < length tree.memories → IsFieldOf circuit tree j t → HasPipe (hub_of circuit tree listed piped driven direct) base t → (takes (hub_of circuit tree listed piped driven direct) (memory_owner tree listed j) t ≡ true) ⊎ IsDatum circuit tree j t
+  pub field-taken : (j t : ℕ) → j < length tree.memories → IsFieldOf circuit tree j t → HasPipe (hub_of circuit tree listed piped entries direct) base t → (takes (hub_of circuit tree listed piped entries direct) (memory_owner tree listed j) t ≡ true) ⊎ IsDatum circuit tree j t
   field-taken j t lt field h = by f.side
     where
       o : IsOn t
       o = on t h
 
-      f : IsListedField circuit tree listed formed fits scoped apart j t o.wire
-      f = field-channel circuit tree listed formed fits scoped apart j t o.wire lt field o.among o.is
+      f : IsListedField circuit tree listed entries formed fits scoped apart j t o.wire
+      f = field-channel circuit tree listed entries formed fits scoped apart j t o.wire lt field o.among o.is
 
       by : (o.wire.consumer ≡ first_memory listed + f.place) ⊎ (IsDatum circuit tree j t × (o.wire.consumer < first_memory listed)) → (takes hub (memory_owner tree listed j) t ≡ true) ⊎ IsDatum circuit tree j t
       by (inl e) = inl (o.taking (memory_owner tree listed j) ∙ eq-eqb o.wire.consumer (memory_owner tree listed j) (e ∙ sym f.owner))
       by (inr d) = inr d.0
 
-  pub data-free : (j t : ℕ) → j < length tree.memories → HasPipe (hub_of circuit tree listed piped driven direct) base t → IsDatum circuit tree j t → takes (hub_of circuit tree listed piped driven direct) (memory_owner tree listed j) t ≡ true → ⊥
+  pub data-free : (j t : ℕ) → j < length tree.memories → HasPipe (hub_of circuit tree listed piped entries direct) base t → IsDatum circuit tree j t → takes (hub_of circuit tree listed piped entries direct) (memory_owner tree listed j) t ≡ true → ⊥
   data-free j t lt h d e = by f.is
     where
       o : IsOn t
       o = on t h
 
-      f : IsListedField circuit tree listed formed fits scoped apart j t o.wire
-      f = field-channel circuit tree listed formed fits scoped apart j t o.wire lt (datum-field circuit tree listed formed fits scoped apart j t d) o.among o.is
+      f : IsListedField circuit tree listed entries formed fits scoped apart j t o.wire
+      f = field-channel circuit tree listed entries formed fits scoped apart j t o.wire lt (datum-field circuit tree listed entries formed fits scoped apart j t d) o.among o.is
 
       by : j ≡ value_at listed.memories f.place → ⊥
       by same =
           let there = subst (λ n. IsDatum circuit tree n t) same d in
-          let one = channel-one circuit tree listed fits scoped apart o.wire (wire (reader_at (readers_at circuit (memory_at tree (value_at listed.memories f.place)).memory) there.reader).word (first_memory listed + f.place) (outside_memory tree listed f.place)) o.among (data-wire circuit tree listed f.place there.reader f.known there.there) (o.is ∙ sym there.is) in
+          let one = channel-one circuit tree listed entries fits scoped apart o.wire (wire (reader_at (readers_at circuit (memory_at tree (value_at listed.memories f.place)).memory) there.reader).word (first_memory listed + f.place) (outside_memory tree listed f.place)) o.among (data-wire circuit tree listed entries f.place there.reader f.known there.there) (o.is ∙ sym there.is) in
           let to = ap (λ (v : Wire). v.consumer) one in
           let low = unit_or_hub-below tree listed.units (memory_at tree (value_at listed.memories f.place)).instance in
           let takes = eqb-true o.wire.consumer (memory_owner tree listed j) (sym (o.taking (memory_owner tree listed j)) ∙ e) in
@@ -211,7 +212,7 @@ module _ (circuit : FlatCircuit) (tree : InstanceTree) (listed : Listed) (formed
       by (inl e) = (0, omega arith, e)
       by (inr e) = (1, omega arith, e)
 
-  listed-given : (i s t : ℕ) → i < length listed.memories → Given (value_at listed.memories i) s t → HasPipe (hub_of circuit tree listed piped driven direct) base t → takes (hub_of circuit tree listed piped driven direct) (maker_of (hub_of circuit tree listed piped driven direct) s) t ≡ true
+  listed-given : (i s t : ℕ) → i < length listed.memories → Given (value_at listed.memories i) s t → HasPipe (hub_of circuit tree listed piped entries direct) base t → takes (hub_of circuit tree listed piped entries direct) (maker_of (hub_of circuit tree listed piped entries direct) s) t ≡ true
   listed-given i s t lt (d, which) h = o.taking (maker_of hub s) ∙ eq-eqb o.wire.consumer (maker_of hub s) (to which ∙ sym maker)
     where
       o : IsOn t
@@ -221,14 +222,14 @@ module _ (circuit : FlatCircuit) (tree : InstanceTree) (listed : Listed) (formed
       readers = readers_at circuit (memory_at tree (value_at listed.memories i)).memory
 
       maker : maker_of hub s ≡ first_memory listed + i
-      maker = maker-wire hub base (first_memory listed + i) s (record { wire = wire (reader_at readers d.reader).word (first_memory listed + i) (outside_memory tree listed i); among = data-wire circuit tree listed i d.reader lt d.there; producer = refl; is = d.is })
+      maker = maker-wire hub base (first_memory listed + i) s (record { wire = wire (reader_at readers d.reader).word (first_memory listed + i) (outside_memory tree listed i); among = data-wire circuit tree listed entries i d.reader lt d.there; producer = refl; is = d.is })
 
       to : ((reader_at readers d.reader).addr ≡ t) ⊎ ((reader_at readers d.reader).en ≡ t) → o.wire.consumer ≡ first_memory listed + i
-      to (inl e) = ap (λ (v : Wire). v.consumer) (channel-one circuit tree listed fits scoped apart o.wire (wire (reader_at readers d.reader).addr (outside_memory tree listed i) (first_memory listed + i)) o.among (addr-wire circuit tree listed i d.reader lt d.there) (o.is ∙ sym e))
-      to (inr e) = ap (λ (v : Wire). v.consumer) (channel-one circuit tree listed fits scoped apart o.wire (wire (reader_at readers d.reader).en (outside_memory tree listed i) (first_memory listed + i)) o.among (en-wire circuit tree listed i d.reader lt d.there) (o.is ∙ sym e))
+      to (inl e) = ap (λ (v : Wire). v.consumer) (channel-one circuit tree listed entries fits scoped apart o.wire (wire (reader_at readers d.reader).addr (outside_memory tree listed i) (first_memory listed + i)) o.among (addr-wire circuit tree listed entries i d.reader lt d.there) (o.is ∙ sym e))
+      to (inr e) = ap (λ (v : Wire). v.consumer) (channel-one circuit tree listed entries fits scoped apart o.wire (wire (reader_at readers d.reader).en (outside_memory tree listed i) (first_memory listed + i)) o.among (en-wire circuit tree listed entries i d.reader lt d.there) (o.is ∙ sym e))
 
-  pub given-taken : (j s t : ℕ) → j < length tree.memories → Given j s t → HasPipe (hub_of circuit tree listed piped driven direct) base t → takes (hub_of circuit tree listed piped driven direct) (maker_of (hub_of circuit tree listed piped driven direct) s) t ≡ true
+  pub given-taken : (j s t : ℕ) → j < length tree.memories → Given j s t → HasPipe (hub_of circuit tree listed piped entries direct) base t → takes (hub_of circuit tree listed piped entries direct) (maker_of (hub_of circuit tree listed piped entries direct) s) t ≡ true
   given-taken j s t lt g h =
       let o = on t h in
-      let f = field-channel circuit tree listed formed fits scoped apart j t o.wire lt (given-field j s t g) o.among o.is in
+      let f = field-channel circuit tree listed entries formed fits scoped apart j t o.wire lt (given-field j s t g) o.among o.is in
       listed-given f.place s t f.known (subst (λ n. Given n s t) f.is g) h

@@ -27,7 +27,7 @@ use Rattle.gg_cut_plan.specs.declared.listed.Listed.{Listed}
 use Rattle.gg_cut_plan.specs.Listed.{first_place, is_among, listed_of, owner_of_instance, memory_owner}
 use Rattle.gg_cut_plan.specs.Channels.{channel_names}
 use Rattle.gg_cut_plan.specs.Clocks.{ratio_of}
-use Rattle.gg_cut_plan.specs.Direct.{Hub, is_driven, is_piped, plan_hub, plan_signals, routes}
+use Rattle.gg_cut_plan.specs.Direct.{Hub, is_piped, plan_hub, plan_signals, routes}
 use Rattle.gg_cut_plan.specs.Fault.{first_fault}
 use Rattle.gg_cut_plan.proofs.ChannelLemmas.{named-channel}
 use Rattle.gg_cut_plan.proofs.OriginLemmas.{Finds, any-finds, finds-any}
@@ -185,27 +185,27 @@ module _ (design : Ordered) (request other : Request) (is : IsDesign design) (ke
 
   made-alike : (s t : ℕ) → s < length design.circuit.signals → ((place : ℕ) → driver_at design.circuit s ≢ Input place) → AreNames s t → seen_by (plan_hub design.circuit design.tree request) (maker_of (plan_hub design.circuit design.tree request) s) t ≡ seen_by (plan_hub design.circuit design.tree other) (maker_of (plan_hub design.circuit design.tree other) s) t
   made-alike s t lt plain names = seen-alike (maker_of mine s) (maker_of theirs s) t (λ h k. by h k
-      (stands circuit tree my-listed is.formed keeps.fitting keeps.scoped my-apart mine.piped mine.driven mine.direct my-base s lt plain) (stands circuit tree their-listed is.formed keeps.fitting keeps.scoped their-apart theirs.piped theirs.driven theirs.direct their-base s lt plain))
+      (stands circuit tree my-listed is.formed keeps.fitting keeps.scoped my-apart mine.piped request.bridges mine.direct my-base s lt plain) (stands circuit tree their-listed is.formed keeps.fitting keeps.scoped their-apart theirs.piped other.bridges theirs.direct their-base s lt plain))
     where
       datum : HasPipe mine my-base t → HasPipe theirs their-base t → (j : ℕ) → j < length tree.memories → IsDatum circuit tree j s → takes mine (maker_of mine s) t ≡ takes theirs (maker_of theirs s) t
       datum h k j below d =
-          given-taken circuit tree my-listed is.formed keeps.fitting keeps.scoped my-apart mine.piped mine.driven mine.direct my-base j s t below (d, names.datum j d) h
-          ∙ sym (given-taken circuit tree their-listed is.formed keeps.fitting keeps.scoped their-apart theirs.piped theirs.driven theirs.direct their-base j s t below (d, names.datum j d) k)
+          given-taken circuit tree my-listed is.formed keeps.fitting keeps.scoped my-apart mine.piped request.bridges mine.direct my-base j s t below (d, names.datum j d) h
+          ∙ sym (given-taken circuit tree their-listed is.formed keeps.fitting keeps.scoped their-apart theirs.piped other.bridges theirs.direct their-base j s t below (d, names.datum j d) k)
 
       homes : HasPipe mine my-base t → HasPipe theirs their-base t → (i : ℕ) → IsVisible tree i t → takes mine (owner_of_instance tree my-listed.units i) t ≡ takes theirs (owner_of_instance tree their-listed.units i) t
       homes h k i seen =
           same-bool (takes mine (owner_of_instance tree my-listed.units i) t) (takes theirs (owner_of_instance tree their-listed.units i) t)
-          (λ e. comes circuit tree their-listed is.formed keeps.fitting keeps.scoped their-apart theirs.piped theirs.driven theirs.direct their-base i t k (taken circuit tree my-listed is.formed keeps.fitting keeps.scoped my-apart mine.piped mine.driven mine.direct my-base i t h seen e))
-          (λ e. comes circuit tree my-listed is.formed keeps.fitting keeps.scoped my-apart mine.piped mine.driven mine.direct my-base i t h (taken circuit tree their-listed is.formed keeps.fitting keeps.scoped their-apart theirs.piped theirs.driven theirs.direct their-base i t k seen e))
+          (λ e. comes circuit tree their-listed is.formed keeps.fitting keeps.scoped their-apart theirs.piped other.bridges theirs.direct their-base i t k (taken circuit tree my-listed is.formed keeps.fitting keeps.scoped my-apart mine.piped request.bridges mine.direct my-base i t h seen e))
+          (λ e. comes circuit tree my-listed is.formed keeps.fitting keeps.scoped my-apart mine.piped request.bridges mine.direct my-base i t h (taken circuit tree their-listed is.formed keeps.fitting keeps.scoped their-apart theirs.piped other.bridges theirs.direct their-base i t k seen e))
 
       by : HasPipe mine my-base t → HasPipe theirs their-base t
-          → Stands circuit tree my-listed is.formed keeps.fitting keeps.scoped my-apart mine.piped mine.driven mine.direct my-base s
-          → Stands circuit tree their-listed is.formed keeps.fitting keeps.scoped their-apart theirs.piped theirs.driven theirs.direct their-base s
+          → Stands circuit tree my-listed is.formed keeps.fitting keeps.scoped my-apart mine.piped request.bridges mine.direct my-base s
+          → Stands circuit tree their-listed is.formed keeps.fitting keeps.scoped their-apart theirs.piped other.bridges theirs.direct their-base s
           → takes mine (maker_of mine s) t ≡ takes theirs (maker_of theirs s) t
       by h k (Datum j below d) there = datum h k j below d
       by h k (Written i written at) (Datum j below d) = datum h k j below d
       by h k (Written i written at) (Written j there to) =
-          let one = written-one circuit tree my-listed is.formed keeps.fitting keeps.scoped my-apart j i s there written in
+          let one = written-one circuit tree my-listed request.bridges is.formed keeps.fitting keeps.scoped my-apart j i s there written in
           ap (λ m. takes mine m t) at ∙ homes h k i (names.visible i written) ∙ ap (λ m. takes theirs m t) (sym (to ∙ ap (owner_of_instance tree their-listed.units) one))
 
   data-driver : (j s : ℕ) → (d : IsDatum design.circuit design.tree j s) → driver_at design.circuit s ≡ reader_driver (latency_at design.circuit (memory_at design.tree j).memory) (memory_at design.tree j).memory d.reader (reader_at (readers_at design.circuit (memory_at design.tree j).memory) d.reader)
@@ -266,22 +266,22 @@ module _ (design : Ordered) (request other : Request) (is : IsDesign design) (ke
       sides h k = same-bool (takes mine (memory_owner tree my-listed m) t) (takes theirs (memory_owner tree their-listed m) t) on back
         where
           on : takes mine (memory_owner tree my-listed m) t ≡ true → takes theirs (memory_owner tree their-listed m) t ≡ true
-          on e = by (field-taken circuit tree their-listed is.formed keeps.fitting keeps.scoped their-apart theirs.piped theirs.driven theirs.direct their-base m t known own k)
+          on e = by (field-taken circuit tree their-listed is.formed keeps.fitting keeps.scoped their-apart theirs.piped other.bridges theirs.direct their-base m t known own k)
             where
               by : (takes theirs (memory_owner tree their-listed m) t ≡ true) ⊎ IsDatum circuit tree m t → takes theirs (memory_owner tree their-listed m) t ≡ true
               by (inl f) = f
-              by (inr d) = absurd (data-free circuit tree my-listed is.formed keeps.fitting keeps.scoped my-apart mine.piped mine.driven mine.direct my-base m t known h d e)
+              by (inr d) = absurd (data-free circuit tree my-listed is.formed keeps.fitting keeps.scoped my-apart mine.piped request.bridges mine.direct my-base m t known h d e)
 
           back : takes theirs (memory_owner tree their-listed m) t ≡ true → takes mine (memory_owner tree my-listed m) t ≡ true
-          back e = by (field-taken circuit tree my-listed is.formed keeps.fitting keeps.scoped my-apart mine.piped mine.driven mine.direct my-base m t known own h)
+          back e = by (field-taken circuit tree my-listed is.formed keeps.fitting keeps.scoped my-apart mine.piped request.bridges mine.direct my-base m t known own h)
             where
               by : (takes mine (memory_owner tree my-listed m) t ≡ true) ⊎ IsDatum circuit tree m t → takes mine (memory_owner tree my-listed m) t ≡ true
               by (inl f) = f
-              by (inr d) = absurd (data-free circuit tree their-listed is.formed keeps.fitting keeps.scoped their-apart theirs.piped theirs.driven theirs.direct their-base m t known k d e)
+              by (inr d) = absurd (data-free circuit tree their-listed is.formed keeps.fitting keeps.scoped their-apart theirs.piped other.bridges theirs.direct their-base m t known k d e)
 
   -- ---- the circuit
 
-  agreed : AreAgreed design.circuit (views_in design.circuit design.tree (listed_of design.tree request) (is_piped design.circuit request) (is_driven design.circuit request) request.direct) (views_in design.circuit design.tree (listed_of design.tree other) (is_piped design.circuit other) (is_driven design.circuit other) other.direct)
+  agreed : AreAgreed design.circuit (views_in design.circuit design.tree (listed_of design.tree request) (is_piped design.circuit request) request.bridges request.direct) (views_in design.circuit design.tree (listed_of design.tree other) (is_piped design.circuit other) other.bridges other.direct)
   agreed =
       record {
         maker = λ s t lt named. made-alike s t lt (not-input (driver_at circuit s) t named) (driver-names s t named);
@@ -292,8 +292,8 @@ module _ (design : Ordered) (request other : Request) (is : IsDesign design) (ke
 
   pub one-reference : plan_reference design request ≡ plan_reference design other
   one-reference =
-      reference-agree circuit (views_in circuit tree my-listed (is_piped circuit request) (is_driven circuit request) request.direct) (views_in circuit tree their-listed (is_piped circuit other) (is_driven circuit other) other.direct) (pipes_of mine) agreed
-      ∙ ap (reference_of circuit (views_in circuit tree their-listed (is_piped circuit other) (is_driven circuit other) other.direct)) pipes-alike
+      reference-agree circuit (views_in circuit tree my-listed (is_piped circuit request) request.bridges request.direct) (views_in circuit tree their-listed (is_piped circuit other) other.bridges other.direct) (pipes_of mine) agreed
+      ∙ ap (reference_of circuit (views_in circuit tree their-listed (is_piped circuit other) other.bridges other.direct)) pipes-alike
 
   -- and their runs start alike, if their clocks have the same ratios
   pub one-start : ((clock : List ℕ) → ratio_of request.clocks clock ≡ ratio_of other.clocks clock) → plan_start design request ≡ plan_start design other

@@ -21,7 +21,7 @@ use Rattle.gg_cut_plan.specs.declared.listed.Listed.{Listed}
 use Rattle.gg_cut_plan.specs.Listed.{listed_of}
 use Rattle.gg_cut_plan.specs.Fault.{first_fault}
 use Rattle.gg_cut_plan.specs.Plan.{wire_at, Takes, IsCutPart}
-use Rattle.gg_cut_plan.specs.Direct.{Hub, is_driven, is_piped, plan_hub, plan_routes}
+use Rattle.gg_cut_plan.specs.Direct.{Hub, is_piped, plan_hub, plan_wires}
 use Rattle.gg_cut_plan.specs.Solves.{AreRows, stream}
 use Rattle.gg_cut_split.specs.inside.Apart.{AreApart}
 use Rattle.gg_cut_split.proofs.ClosedLemmas.FaultlessLemmas.{faultless-apart}
@@ -68,14 +68,14 @@ module _ (design : Ordered) (request : Request) (is : IsDesign design) (keeps : 
 
   -- ---- the circuit
 
-  pub plan-made : IsReference design.circuit (plan_reference design request) (views_in design.circuit design.tree (listed_of design.tree request) (is_piped design.circuit request) (is_driven design.circuit request) request.direct) (pipes_of (plan_hub design.circuit design.tree request))
-  plan-made = made design.circuit design.tree listed is.formed keeps.fitting keeps.scoped apart (is_piped design.circuit request) (is_driven design.circuit request) request.direct base (holder_of hub) (keeper_of design.tree listed)
+  pub plan-made : IsReference design.circuit (plan_reference design request) (views_in design.circuit design.tree (listed_of design.tree request) (is_piped design.circuit request) request.bridges request.direct) (pipes_of (plan_hub design.circuit design.tree request))
+  plan-made = made design.circuit design.tree listed is.formed keeps.fitting keeps.scoped apart (is_piped design.circuit request) request.bridges request.direct base (holder_of hub) (keeper_of design.tree listed)
 
   pub plan-ordered : IsOrder (plan_reference design request) (range_with_len (length design.circuit.signals) (length (pipes_of (plan_hub design.circuit design.tree request))) ++ design.order)
-  plan-ordered = ordered design.circuit design.tree listed is.formed keeps.fitting keeps.scoped apart (is_piped design.circuit request) (is_driven design.circuit request) request.direct base (holder_of hub) (keeper_of design.tree listed) design.order is.ordered
+  plan-ordered = ordered design.circuit design.tree listed is.formed keeps.fitting keeps.scoped apart (is_piped design.circuit request) request.bridges request.direct base (holder_of hub) (keeper_of design.tree listed) design.order is.ordered
 
   pub plan-formed : IsFresh design.circuit → IsWellFormed (plan_reference design request)
-  plan-formed fresh = whole-formed design.circuit design.tree listed is.formed keeps.fitting keeps.scoped apart (is_piped design.circuit request) (is_driven design.circuit request) request.direct base (holder_of hub) (keeper_of design.tree listed) (keeper-is design.circuit design.tree listed keeps.fitting) fresh
+  plan-formed fresh = whole-formed design.circuit design.tree listed is.formed keeps.fitting keeps.scoped apart (is_piped design.circuit request) request.bridges request.direct base (holder_of hub) (keeper_of design.tree listed) (keeper-is design.circuit design.tree listed keeps.fitting) fresh
 
   pub plan-columns : (n : ℕ) (columns : List (List ℕ)) → IsColumns design.circuit n columns → IsColumns (plan_reference design request) n columns
   plan-columns n columns given =
@@ -86,19 +86,19 @@ module _ (design : Ordered) (request : Request) (is : IsDesign design) (keeps : 
   pub plan-seen : (m : ℕ) → IsSeen design.circuit (pipes_of (plan_hub design.circuit design.tree request)) (plan_seen design request m)
   plan-seen m = all-seen hub base m
 
-  pub plan-own : (m s : ℕ) → ¬ Takes (plan_routes design.circuit design.tree request) m s → plan_seen design request m s ≡ s
+  pub plan-own : (m s : ℕ) → ¬ Takes (plan_wires design.circuit design.tree request) m s → plan_seen design request m s ≡ s
   plan-own m s free = seen-own hub base m s free
 
-  among : (c : ℕ) → c < length (plan_routes design.circuit design.tree request) → Contains (plan_routes design.circuit design.tree request) (wire_at (plan_routes design.circuit design.tree request) c)
-  among c lt = Contains-get_or (plan_routes design.circuit design.tree request) c any-wire lt
+  among : (c : ℕ) → c < length (plan_wires design.circuit design.tree request) → Contains (plan_wires design.circuit design.tree request) (wire_at (plan_wires design.circuit design.tree request) c)
+  among c lt = Contains-get_or (plan_wires design.circuit design.tree request) c any-wire lt
 
   -- what a channel's producer gives it sees as it is
-  pub plan-gives : (c : ℕ) → c < length (plan_routes design.circuit design.tree request) → plan_seen design request (wire_at (plan_routes design.circuit design.tree request) c).producer (wire_at (plan_routes design.circuit design.tree request) c).given ≡ (wire_at (plan_routes design.circuit design.tree request) c).given
-  plan-gives c lt = gives-seen hub base (wire_at (plan_routes design.circuit design.tree request) c) (among c lt)
+  pub plan-gives : (c : ℕ) → c < length (plan_wires design.circuit design.tree request) → plan_seen design request (wire_at (plan_wires design.circuit design.tree request) c).producer (wire_at (plan_wires design.circuit design.tree request) c).given ≡ (wire_at (plan_wires design.circuit design.tree request) c).given
+  plan-gives c lt = gives-seen hub base (wire_at (plan_wires design.circuit design.tree request) c) (among c lt)
 
   -- what its consumer sees; a tray keeps it
-  pub plan-kept : (c : ℕ) → c < length (plan_routes design.circuit design.tree request) → plan_seen design request (wire_at (plan_routes design.circuit design.tree request) c).consumer (wire_at (plan_routes design.circuit design.tree request) c).signal ≡ taken_as (plan_hub design.circuit design.tree request) (wire_at (plan_routes design.circuit design.tree request) c).signal
-  plan-kept c lt = takes-seen hub base (wire_at (plan_routes design.circuit design.tree request) c) (among c lt)
+  pub plan-kept : (c : ℕ) → c < length (plan_wires design.circuit design.tree request) → plan_seen design request (wire_at (plan_wires design.circuit design.tree request) c).consumer (wire_at (plan_wires design.circuit design.tree request) c).signal ≡ taken_as (plan_hub design.circuit design.tree request) (wire_at (plan_wires design.circuit design.tree request) c).signal
+  plan-kept c lt = takes-seen hub base (wire_at (plan_wires design.circuit design.tree request) c) (among c lt)
 
   -- ---- pieces
 
@@ -106,7 +106,7 @@ module _ (design : Ordered) (request : Request) (is : IsDesign design) (keeps : 
   holders m part cut = record { registers = holder-is hub held; kept = λ k h. keeper-is design.circuit design.tree listed keeps.fitting m k ((cut.memories k).0 h) }
 
   routed : (m : ℕ) (part : Part) → IsCutPart design (listed_of design.tree request) (plan_hub design.circuit design.tree request) m part → IsRoutedPart (plan_hub design.circuit design.tree request) m part
-  routed m part cut = cut-part design listed (is_piped design.circuit request) (is_driven design.circuit request) request.direct m part cut
+  routed m part cut = cut-part design listed (is_piped design.circuit request) request.bridges request.direct m part cut
 
   pub plan-part : (m : ℕ) (part : Part) → IsCutPart design (listed_of design.tree request) (plan_hub design.circuit design.tree request) m part → IsPart (plan_reference design request) (with_paths (plan_reference design request) part.piece (map (plan_seen design request m) part.globals)) (map (plan_seen design request m) part.globals) part.held part.memories part.clocks
   plan-part m part cut = part-is hub base (plan_reference design request) (holder_of hub) (keeper_of design.tree listed) plan-made is.formed m part (routed m part cut) (holders m part cut)
@@ -122,15 +122,15 @@ module _ (design : Ordered) (request : Request) (is : IsDesign design) (keeps : 
     rows-follow m part cut = follows hub base is.formed (holder_of hub) (keeper_of design.tree listed) m part (routed m part cut) (holders m part cut) start typed columns end rows run
 
     -- the signal of a channel has the column of what is given
-    pub rows-given : (c : ℕ) → c < length (plan_routes design.circuit design.tree request) → column rows (wire_at (plan_routes design.circuit design.tree request) c).signal ≡ column rows (wire_at (plan_routes design.circuit design.tree request) c).given
-    rows-given c lt = given-column hub base (plan_reference design request) (holder_of hub) (keeper_of design.tree listed) plan-made is.formed start typed columns end rows run (wire_at (plan_routes design.circuit design.tree request) c) (among c lt)
+    pub rows-given : (c : ℕ) → c < length (plan_wires design.circuit design.tree request) → column rows (wire_at (plan_wires design.circuit design.tree request) c).signal ≡ column rows (wire_at (plan_wires design.circuit design.tree request) c).given
+    rows-given c lt = given-column hub base (plan_reference design request) (holder_of hub) (keeper_of design.tree listed) plan-made is.formed start typed columns end rows run (wire_at (plan_wires design.circuit design.tree request) c) (among c lt)
 
     -- its consumer takes that, a cycle later and behind the pipe's token if the channel is piped
-    pub rows-taken : (c : ℕ) → c < length (plan_routes design.circuit design.tree request) → column rows (plan_seen design request (wire_at (plan_routes design.circuit design.tree request) c).consumer (wire_at (plan_routes design.circuit design.tree request) c).signal)
-        ≡ take end (stream start.cycle (plan_token design request start.state (wire_at (plan_routes design.circuit design.tree request) c).signal) (is_piped design.circuit request (wire_at (plan_routes design.circuit design.tree request) c).signal) (column rows (wire_at (plan_routes design.circuit design.tree request) c).signal))
+    pub rows-taken : (c : ℕ) → c < length (plan_wires design.circuit design.tree request) → column rows (plan_seen design request (wire_at (plan_wires design.circuit design.tree request) c).consumer (wire_at (plan_wires design.circuit design.tree request) c).signal)
+        ≡ take end (stream start.cycle (plan_token design request start.state (wire_at (plan_wires design.circuit design.tree request) c).signal) (is_piped design.circuit request (wire_at (plan_wires design.circuit design.tree request) c).signal) (column rows (wire_at (plan_wires design.circuit design.tree request) c).signal))
     rows-taken c lt =
-        let s = (wire_at (plan_routes design.circuit design.tree request) c).signal in
-        seen-column hub base (plan_reference design request) (holder_of hub) (keeper_of design.tree listed) plan-made is.formed start typed columns end rows run (wire_at (plan_routes design.circuit design.tree request) c) (among c lt)
+        let s = (wire_at (plan_wires design.circuit design.tree request) c).signal in
+        seen-column hub base (plan_reference design request) (holder_of hub) (keeper_of design.tree listed) plan-made is.formed start typed columns end rows run (wire_at (plan_wires design.circuit design.tree request) c) (among c lt)
         ∙ ap (λ l. take end (stream start.cycle (plan_token design request start.state s) (is_piped design.circuit request s) l)) (sym (rows-given c lt))
 
     -- an input of the top has, from the start on, what it was given

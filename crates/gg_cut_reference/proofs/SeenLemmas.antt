@@ -158,7 +158,7 @@ module _ (hub : Hub) (base : IsBase hub) where
     where
       by : (list_any (λ (r : Wire). (r.consumer == 0) && (r.signal == t)) (routes hub) ≡ true) ⊎ (list_any (λ (r : Wire). (r.consumer == 0) && (r.signal == t)) (routes hub) ≡ false) → Chain hub n t x → seen_by hub 0 t ≡ t
       by (inr f) c = seen-plain 0 t f
-      by (inl f) (Here more same taken plain free is) = seen-takes 0 t f ∙ unpiped t plain
+      by (inl f) (Here more same taken plain is) = seen-takes 0 t f ∙ unpiped t plain
       by (inl f) (Copy more u same taken own to rest) =
           let w = takes-out hub base 0 t (takes-any 0 t f) in
           absurd (own-no-wire hub base w.wire w.among (subst (λ s. is_own hub s ≡ true) (sym w.is) own))

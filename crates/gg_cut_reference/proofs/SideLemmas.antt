@@ -1,5 +1,5 @@
 -- Whether the machine of an instance takes a channel doesn't depend on the cut: it takes what comes into the instance.
-use Rattle.std.proofs.Common.{◌≡◌, ℕ, suc, ◌+◌, ◌<◌, Bool, true, false, not, Some, None, length, refl, sym, ◌∙◌, ap, subst, inl, inr, ◌⊎◌, arith}
+use Rattle.std.proofs.Common.{◌≡◌, ℕ, suc, ◌+◌, ◌<◌, List, [], Bool, true, false, not, Some, None, length, refl, sym, ◌∙◌, ap, subst, inl, inr, ◌⊎◌, arith}
 use Rattle.std.specs.Prelude.{if◌then◌else◌, Contains}
 use Rattle.std.proofs.lemmas.List.{get_or_default}
 use Rattle.gg_flat_tree.specs.declared.tree.InstancePort.{InstancePort}
@@ -8,6 +8,9 @@ use Rattle.gg_flat.specs.Circuit.{FlatCircuit, readers_at, reader_at}
 use Rattle.gg_flat.specs.WellFormed.{IsWellFormed}
 use Rattle.gg_flat_tree.specs.Tree.{InstanceTree, IsTree, instance_at, memory_at, parent_place}
 use Rattle.gg_flat_tree.specs.Scoped.{IsScoped, IsPort, IsInputOf, IsFieldOf, IsVisible, IsWritten, IsOwnSink, IsChildsInput, memory_fields}
+use Rattle.gg_partfile.specs.declared.request.BridgeEntry.{BridgeEntry}
+use Rattle.gg_cut_plan.specs.Ports.{ports_of}
+use Rattle.gg_cut_plan.proofs.PortLemmas.{keeper-source}
 use Rattle.gg_cut_plan.specs.declared.wires.Wire.{Wire}
 use Rattle.gg_cut_plan.specs.declared.listed.Listed.{Listed}
 use Rattle.gg_cut_plan.specs.Listed.{owner_of_instance, memory_owner}
@@ -17,7 +20,7 @@ use Rattle.gg_cut_plan.proofs.WireLemmas.{unit_or_hub-below}
 use Rattle.gg_cut_split.specs.inside.Apart.{AreApart}
 use Rattle.gg_cut_split.proofs.ClosedLemmas.TreeLemmas.{innermost-one}
 use Rattle.gg_cut_split.proofs.ClosedLemmas.PlaceLemmas.{owner-unit, owner-top, owner-outside}
-use Rattle.gg_cut_split.proofs.ClosedLemmas.KindLemmas.{IsSourceWire, IsTrayWire, IsPortWire, IsFieldWire, IsInto, IsWordWire, Kind, OfSource, OfPort, OfField, OfTray, outside_unit, outside_memory, kind-of, data-wire, word-field}
+use Rattle.gg_cut_split.proofs.ClosedLemmas.KindLemmas.{IsInputWire, IsOutputWire, IsPortWire, IsFieldWire, IsInto, IsWordWire, Kind, OfInput, OfPort, OfField, OfOutput, outside_unit, outside_memory, kind-of, data-wire, word-field}
 use Rattle.gg_cut_split.proofs.ClosedLemmas.NameLemmas.{port-no-field, field-one}
 use Rattle.gg_cut_split.proofs.ClosedLemmas.OnceLemmas.{IsChosen, IsStopSignal, top-input, top-port, out-cases, stop-port, stop-field, port-one, same-instance, channel-one}
 use Rattle.gg_cut_split.proofs.ClosedLemmas.MakerLemmas.{field-listed}
@@ -46,7 +49,7 @@ pub data Comes (circuit : FlatCircuit) (tree : InstanceTree) (k t : ℕ) : Type 
   Up : (child : ℕ) → (instance_at tree child).parent ≡ Some k → IsOutputOf tree child t → Comes circuit tree k t
   Read : (j : ℕ) → j < length tree.memories → (memory_at tree j).instance ≡ k → IsDatum circuit tree j t → Comes circuit tree k t
 
-module _ (circuit : FlatCircuit) (tree : InstanceTree) (listed : Listed) (formed : IsWellFormed circuit) (fits : IsTree circuit tree) (scoped : IsScoped circuit tree) (apart : AreApart tree listed) where
+module _ (circuit : FlatCircuit) (tree : InstanceTree) (listed : Listed) (entries : List BridgeEntry) (formed : IsWellFormed circuit) (fits : IsTree circuit tree) (scoped : IsScoped circuit tree) (apart : AreApart tree listed) where
   both : (b : Bool) → b ≡ true → b ≡ false → ⊥
   both true e f = absurd (cc)
   both false e f = absurd (cc)
@@ -140,12 +143,12 @@ module _ (circuit : FlatCircuit) (tree : InstanceTree) (listed : Listed) (formed
           subst (λ b. (if b then wire p.port.signal (outside_unit tree listed p.unit) (suc p.unit) else wire p.port.signal (suc p.unit) (outside_unit tree listed p.unit)) ≡ w) e p.is in
           Leaves p.unit p.known (record { known = apart.known p.unit 0 p.known; port = p.port; listed = p.among; is = ap (λ (v : Wire). v.signal) same ∙ is; output = e }) (sym (ap (λ (v : Wire). v.consumer) same))
 
-  source-input : (w : Wire) (t : ℕ) → w.signal ≡ t → IsSourceWire circuit listed w → IsInputOf tree 0 t
+  source-input : (w : Wire) (t : ℕ) → w.signal ≡ t → IsInputWire circuit tree listed entries w → IsInputOf tree 0 t
   source-input w t is f =
       let c = top-input circuit tree listed fits scoped apart t (f.place, f.known, get_or_default circuit.ins f.place t 0 f.known ∙ ap (λ (v : Wire). v.signal) (sym f.is) ∙ is) in
       record { known = fits.top.there; port = c.port; listed = c.among; is = c.is; input = c.passes }
 
-  tray-signal : (w : Wire) (t : ℕ) → w.signal ≡ t → IsTrayWire circuit tree listed w → Contains circuit.outs t
+  tray-signal : (w : Wire) (t : ℕ) → w.signal ≡ t → IsOutputWire circuit tree listed entries w → Contains circuit.outs t
   tray-signal w t is f = (f.place, f.known, get_or_default circuit.outs f.place t 0 f.known ∙ ap (λ (v : Wire). v.signal) (sym f.is) ∙ is)
 
   -- nothing that comes into an instance is an output of the top or a stop
@@ -164,10 +167,10 @@ module _ (circuit : FlatCircuit) (tree : InstanceTree) (listed : Listed) (formed
       by (Read j lt in-here d) (inr stop) = stop-field circuit tree listed fits scoped apart j t lt stop (datum-field j t d)
 
   -- what comes into an instance, its machine takes, if a channel carries it
-  pub comes-taken : (k t : ℕ) (w : Wire) → Contains (wires_of circuit tree listed) w → w.signal ≡ t → Comes circuit tree k t → owner_of_instance tree listed.units k ≡ w.consumer
-  comes-taken k t w among is comes = by (kind-of circuit tree listed w among) comes
+  pub comes-taken : (k t : ℕ) (w : Wire) → Contains (wires_of circuit tree listed entries) w → w.signal ≡ t → Comes circuit tree k t → owner_of_instance tree listed.units k ≡ w.consumer
+  comes-taken k t w among is comes = by (kind-of circuit tree listed entries w among) comes
     where
-      source : IsSourceWire circuit listed w → Comes circuit tree k t → home k ≡ w.consumer
+      source : IsInputWire circuit tree listed entries w → Comes circuit tree k t → home k ≡ w.consumer
       source f (Down i) =
           let same = same-instance circuit tree listed fits scoped apart k 0 t (input-port k t i) (input-port 0 t (source-input w t is f)) in
           ap home same ∙ owner-top circuit tree listed fits apart ∙ sym (ap (λ (v : Wire). v.consumer) f.is)
@@ -192,18 +195,18 @@ module _ (circuit : FlatCircuit) (tree : InstanceTree) (listed : Listed) (formed
       field f own (Read j lt in-here d) =
           let same : j ≡ value_at listed.memories f.place = field-one circuit tree fits scoped j (value_at listed.memories f.place) t lt (apart.memories f.place 0 f.known) (datum-field j t d) own in
           let e = subst (λ n. IsDatum circuit tree n t) same d in
-          let one = channel-one circuit tree listed fits scoped apart w (wire (reader_at (readers_at circuit (memory_at tree (value_at listed.memories f.place)).memory) e.reader).word (first_memory listed + f.place) (outside_memory tree listed f.place)) among (data-wire circuit tree listed f.place e.reader f.known e.there) (is ∙ sym e.is) in
+          let one = channel-one circuit tree listed entries fits scoped apart w (wire (reader_at (readers_at circuit (memory_at tree (value_at listed.memories f.place)).memory) e.reader).word (first_memory listed + f.place) (outside_memory tree listed f.place)) among (data-wire circuit tree listed entries f.place e.reader f.known e.there) (is ∙ sym e.is) in
           ap home (sym in-here ∙ ap (λ n. (memory_at tree n).instance) same) ∙ sym (ap (λ (v : Wire). v.consumer) one)
 
-      by : Kind circuit tree listed w → Comes circuit tree k t → home k ≡ w.consumer
-      by (OfSource f) c = source f c
+      by : Kind circuit tree listed entries w → Comes circuit tree k t → home k ≡ w.consumer
+      by (OfInput f) c = source f c
       by (OfPort p) c = port (side-of w t is p) c
       by (OfField f) c = field f (subst (λ s. IsFieldOf circuit tree (value_at listed.memories f.place) s) is (field-listed circuit tree listed fits scoped apart w f)) c
-      by (OfTray f) c = absurd (no-tray k t (tray-signal w t is f) c)
+      by (OfOutput f) c = absurd (no-tray k t (tray-signal w t is f) c)
 
   -- and what it takes and is visible there, comes into it
-  pub taken-comes : (k t : ℕ) (w : Wire) → IsVisible tree k t → Contains (wires_of circuit tree listed) w → w.signal ≡ t → owner_of_instance tree listed.units k ≡ w.consumer → Comes circuit tree k t
-  taken-comes k t w seen among is takes = by (kind-of circuit tree listed w among)
+  pub taken-comes : (k t : ℕ) (w : Wire) → IsVisible tree k t → Contains (wires_of circuit tree listed entries) w → w.signal ≡ t → owner_of_instance tree listed.units k ≡ w.consumer → Comes circuit tree k t
+  taken-comes k t w seen among is takes = by (kind-of circuit tree listed entries w among)
     where
       low : home k < suc (length listed.units)
       low = unit_or_hub-below tree listed.units k
@@ -235,11 +238,14 @@ module _ (circuit : FlatCircuit) (tree : InstanceTree) (listed : Listed) (formed
           Read (value_at listed.memories f.place) (apart.memories f.place 0 f.known) (field-seen k (value_at listed.memories f.place) t (apart.memories f.place 0 f.known) own seen)
           (record { reader = word.reader; there = word.known; is = sym (ap (λ (v : Wire). v.signal) word.is) ∙ is })
 
-      by : Kind circuit tree listed w → Comes circuit tree k t
-      by (OfSource f) = let i = source-input w t is f in source i (port-seen k 0 t (input-port 0 t i) seen)
+      by : Kind circuit tree listed entries w → Comes circuit tree k t
+      by (OfInput f) = let i = source-input w t is f in source i (port-seen k 0 t (input-port 0 t i) seen)
       by (OfPort p) = port (side-of w t is p)
       by (OfField f) = field f (subst (λ s. IsFieldOf circuit tree (value_at listed.memories f.place) s) is (field-listed circuit tree listed fits scoped apart w f)) f.is
-      by (OfTray f) = let to = ap (λ (v : Wire). v.consumer) f.is in absurd (omega (arith, low, takes, to))
+      by (OfOutput f) =
+          let to = ap (λ (v : Wire). v.consumer) f.is in
+          let high = keeper-source (ports_of circuit tree listed entries) f.place in
+          absurd (omega (arith, low, takes, to, high))
 
   -- ---- fields of memories
 
@@ -251,8 +257,8 @@ module _ (circuit : FlatCircuit) (tree : InstanceTree) (listed : Listed) (formed
     pub owner : memory_owner tree listed j ≡ first_memory listed + place
     pub side : (w.consumer ≡ first_memory listed + place) ⊎ (IsDatum circuit tree j t × (w.consumer < first_memory listed))
 
-  pub field-channel : (j t : ℕ) (w : Wire) → j < length tree.memories → IsFieldOf circuit tree j t → Contains (wires_of circuit tree listed) w → w.signal ≡ t → IsListedField j t w
-  field-channel j t w lt own among is = by (kind-of circuit tree listed w among)
+  pub field-channel : (j t : ℕ) (w : Wire) → j < length tree.memories → IsFieldOf circuit tree j t → Contains (wires_of circuit tree listed entries) w → w.signal ≡ t → IsListedField j t w
+  field-channel j t w lt own among is = by (kind-of circuit tree listed entries w among)
     where
       no-port : (k : ℕ) → IsPort tree k t → ⊥
       no-port k port = port-no-field circuit tree fits scoped k j t lt port own
@@ -279,10 +285,10 @@ module _ (circuit : FlatCircuit) (tree : InstanceTree) (listed : Listed) (formed
               let to = ap (λ (v : Wire). v.consumer) word.is in
               inr (subst (λ n. IsDatum circuit tree n t) (sym same) (record { reader = word.reader; there = word.known; is = sym (ap (λ (v : Wire). v.signal) word.is) ∙ is }), omega (arith, low, to))
 
-      by : Kind circuit tree listed w → IsListedField j t w
-      by (OfSource f) = absurd (no-port 0 (input-port 0 t (source-input w t is f)))
+      by : Kind circuit tree listed entries w → IsListedField j t w
+      by (OfInput f) = absurd (no-port 0 (input-port 0 t (source-input w t is f)))
       by (OfPort p) = port (side-of w t is p)
       by (OfField f) =
           let own-there = subst (λ s. IsFieldOf circuit tree (value_at listed.memories f.place) s) is (field-listed circuit tree listed fits scoped apart w f) in
           field f (field-one circuit tree fits scoped j (value_at listed.memories f.place) t lt (apart.memories f.place 0 f.known) own own-there) f.is
-      by (OfTray f) = absurd (out (out-cases circuit tree listed fits scoped apart t (tray-signal w t is f)))
+      by (OfOutput f) = absurd (out (out-cases circuit tree listed fits scoped apart t (tray-signal w t is f)))

@@ -93,5 +93,5 @@ part-start design request m part cut =
     let ratios = ratios_of design.tree request in
     let hub = plan_hub design.circuit design.tree request in
     let from : State → Start = λ state. record { cycle = 0; state = state; ratios = part_ratios part.clocks ratios } in
-    ap from (zeros-by design.circuit (views_in design.circuit design.tree (listed_of design.tree request) hub.piped hub.driven request.direct) (pipes_of hub) part.held part.memories)
+    ap from (zeros-by design.circuit (views_in design.circuit design.tree (listed_of design.tree request) hub.piped request.bridges request.direct) (pipes_of hub) part.held part.memories)
     ∙ opening-start design.circuit part.piece part.globals part.held part.memories part.clocks cut.is ratios

@@ -10,6 +10,7 @@ use Rattle.gg_flat.specs.Order.{IsOrder}
 use Rattle.gg_flat_tree.specs.Tree.{InstanceTree, IsTree, memory_at, path_at}
 use Rattle.gg_flat_tree.specs.Scoped.{IsScoped}
 use Rattle.gg_flat.proofs.ListLemmas.{once-apart}
+use Rattle.gg_partfile.specs.declared.request.BridgeEntry.{BridgeEntry}
 use Rattle.gg_cut_plan.specs.declared.listed.Listed.{Listed}
 use Rattle.gg_cut_plan.specs.Listed.{memory_owner}
 use Rattle.gg_cut_plan.specs.Plan.{HasMemory}
@@ -28,14 +29,14 @@ use Rattle.gg_cut_reference.proofs.OrderedLemmas.{reference_ordered}
 use Rattle.gg_cut_reference.proofs.DataLemmas.{word-plain, word-maker}
 use Rattle.gg_cut_reference.proofs.FormedLemmas.{AreData, AreOuter, reference_formed}
 
-module _ (circuit : FlatCircuit) (tree : InstanceTree) (listed : Listed) (formed : IsWellFormed circuit) (fits : IsTree circuit tree) (scoped : IsScoped circuit tree) (apart : AreApart tree listed) (piped driven : ℕ → Bool) (direct : Bool) (base : IsBase (hub_of circuit tree listed piped driven direct)) (holder keeper : ℕ → ℕ) where
+module _ (circuit : FlatCircuit) (tree : InstanceTree) (listed : Listed) (formed : IsWellFormed circuit) (fits : IsTree circuit tree) (scoped : IsScoped circuit tree) (apart : AreApart tree listed) (piped : ℕ → Bool) (entries : List BridgeEntry) (direct : Bool) (base : IsBase (hub_of circuit tree listed piped entries direct)) (holder keeper : ℕ → ℕ) where
   abbrev hub : Hub
-  hub = hub_of circuit tree listed piped driven direct
+  hub = hub_of circuit tree listed piped entries direct
 
-  pub made : IsReference circuit (reference (hub_of circuit tree listed piped driven direct) holder keeper) (views_of (hub_of circuit tree listed piped driven direct) holder keeper) (pipes_of (hub_of circuit tree listed piped driven direct))
+  pub made : IsReference circuit (reference (hub_of circuit tree listed piped entries direct) holder keeper) (views_of (hub_of circuit tree listed piped entries direct) holder keeper) (pipes_of (hub_of circuit tree listed piped entries direct))
   made = is-reference circuit (views_of hub holder keeper) (pipes_of hub) (pipes-known hub base)
 
-  pub ordered : (order : List ℕ) → IsOrder circuit order → IsOrder (reference (hub_of circuit tree listed piped driven direct) holder keeper) (range_with_len (length circuit.signals) (length (pipes_of (hub_of circuit tree listed piped driven direct))) ++ order)
+  pub ordered : (order : List ℕ) → IsOrder circuit order → IsOrder (reference (hub_of circuit tree listed piped entries direct) holder keeper) (range_with_len (length circuit.signals) (length (pipes_of (hub_of circuit tree listed piped entries direct))) ++ order)
   ordered order is = reference_ordered circuit (reference hub holder keeper) (views_of hub holder keeper) (pipes_of hub) order made (all-seen hub base) is
 
   module _ (keeps : (m k : ℕ) → HasMemory tree listed m k → keeper k ≡ m) (fresh : IsFresh circuit) where
@@ -49,8 +50,8 @@ module _ (circuit : FlatCircuit) (tree : InstanceTree) (listed : Listed) (formed
     data-is : AreData circuit (reference hub holder keeper) (views_of hub holder keeper) (pipes_of hub) made (all-seen hub base) formed
     data-is =
         record {
-          maker = λ k r lt. word-maker circuit tree listed formed fits scoped apart piped driven direct base (keeper k) k r (has-memory k r lt) lt;
-          plain = λ k r lt. word-plain circuit tree listed formed fits scoped apart piped driven direct base (keeper k) k r (has-memory k r lt) lt;
+          maker = λ k r lt. word-maker circuit tree listed formed fits scoped apart piped entries direct base (keeper k) k r (has-memory k r lt) lt;
+          plain = λ k r lt. word-plain circuit tree listed formed fits scoped apart piped entries direct base (keeper k) k r (has-memory k r lt) lt;
         }
 
     pipe-name : ℕ → List ℕ
@@ -87,5 +88,5 @@ module _ (circuit : FlatCircuit) (tree : InstanceTree) (listed : Listed) (formed
         out : (place : ℕ) → place < length circuit.outs → value_at (map (taken_as hub) circuit.outs) place < length (reference hub holder keeper).signals
         out place lt = subst (λ s. s < length (reference hub holder keeper).signals) (sym (get_or-map (taken_as hub) circuit.outs place 0 0 lt)) (below (value_at circuit.outs place) (formed.outs place lt) (taken-seen hub base (value_at circuit.outs place)))
 
-    pub whole-formed : IsWellFormed (reference (hub_of circuit tree listed piped driven direct) holder keeper)
+    pub whole-formed : IsWellFormed (reference (hub_of circuit tree listed piped entries direct) holder keeper)
     whole-formed = reference_formed circuit (reference hub holder keeper) (views_of hub holder keeper) (pipes_of hub) made (all-seen hub base) formed data-is outer

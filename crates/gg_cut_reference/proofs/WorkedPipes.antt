@@ -117,9 +117,8 @@ forked c =
       base = wire 0 3 0 ∷ wire 1 0 1 ∷ wire 2 0 2 ∷ wire 3 1 0 ∷ wire 4 2 0 ∷ wire 5 0 4 ∷ wire 6 0 5 ∷ wire 7 0 6 ∷ [];
       held = [];
       stops = [];
-      memory = λ m. false;
+      silent = λ m. false;
       piped = λ s. s == c;
-      driven = λ s. false;
       direct = true;
     }
 

@@ -21,10 +21,10 @@ use Rattle.gg_cut_reference.specs.Made.{holder_of, reference, reference_circuit}
 -- ---- two units that feed each other, with a pipe
 
 abbrev hub : ℕ → Bool → Hub
-hub c direct = hub_of circuit tree listed (λ s. s == c) (λ s. false) direct
+hub c direct = hub_of circuit tree listed (λ s. s == c) [] direct
 
 abbrev all : ℕ → Bool → FlatCircuit
-all c direct = reference_circuit circuit tree listed (λ s. s == c) (λ s. false) direct
+all c direct = reference_circuit circuit tree listed (λ s. s == c) [] direct
 
 pipes : map (λ c. pipes_of (hub c false)) (3 ∷ 0 ∷ 1 ∷ []) ≡ (3 ∷ []) ∷ (0 ∷ []) ∷ (1 ∷ []) ∷ []
 pipes = refl
@@ -79,9 +79,8 @@ cut circuit owners base c =
       base = base;
       held = [];
       stops = [];
-      memory = λ m. m == 2;
+      silent = λ m. m == 2;
       piped = λ s. s == c;
-      driven = λ s. false;
       direct = false;
     }
 

@@ -10,9 +10,10 @@ use Rattle.gg_flat.specs.declared.piece.Driver.{Driver}
 use Rattle.gg_flat.specs.declared.piece.Driver.TheVariants.{Input, Held, MemoryWord, ReadRegister, Computed}
 use Rattle.gg_flat.specs.Circuit.{FlatCircuit, driver_at}
 use Rattle.gg_flat_tree.specs.Tree.{InstanceTree, path_at}
+use Rattle.gg_partfile.specs.declared.request.BridgeEntry.{BridgeEntry}
 use Rattle.gg_cut_plan.specs.declared.listed.Listed.{Listed}
 use Rattle.gg_cut_plan.specs.Listed.{first_place, listed_of, memory_owner}
-use Rattle.gg_cut_plan.specs.Direct.{Hub, hub_of, is_driven, is_piped, plan_hub}
+use Rattle.gg_cut_plan.specs.Direct.{Hub, hub_of, is_piped, plan_hub}
 use Rattle.gg_order.specs.Design.{Ordered}
 use Rattle.gg_partfile.specs.declared.request.Request.{Request}
 use Rattle.gg_cut_reference.specs.Reference.{Views}
@@ -91,12 +92,12 @@ abbrev pub keeper_of : InstanceTree → Listed → ℕ → ℕ
 keeper_of tree listed m = memory_owner tree listed (unwrap_or (first_place (λ memory. memory.memory == m) tree.memories) 0)
 
 -- the reference circuit of the cut, with the views of its hub
-abbrev pub reference_circuit : FlatCircuit → InstanceTree → Listed → (piped driven : ℕ → Bool) → Bool → FlatCircuit
-reference_circuit circuit tree listed piped driven direct = reference (hub_of circuit tree listed piped driven direct) (holder_of (hub_of circuit tree listed piped driven direct)) (keeper_of tree listed)
+abbrev pub reference_circuit : FlatCircuit → InstanceTree → Listed → (piped : ℕ → Bool) → List BridgeEntry → Bool → FlatCircuit
+reference_circuit circuit tree listed piped entries direct = reference (hub_of circuit tree listed piped entries direct) (holder_of (hub_of circuit tree listed piped entries direct)) (keeper_of tree listed)
 
 -- The circuit that a request's network computes: the design's, with the registers of the request's pipes.
 abbrev pub plan_reference : Ordered → Request → FlatCircuit
-plan_reference design request = reference_circuit design.circuit design.tree (listed_of design.tree request) (is_piped design.circuit request) (is_driven design.circuit request) request.direct
+plan_reference design request = reference_circuit design.circuit design.tree (listed_of design.tree request) (is_piped design.circuit request) request.bridges request.direct
 
 -- the signal of the reference circuit that machine m of a request's cut sees as signal t of the design
 abbrev pub plan_seen : Ordered → Request → ℕ → ℕ → ℕ

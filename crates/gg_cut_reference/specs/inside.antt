@@ -4,7 +4,7 @@ pub mod ReferenceRuns
 pub mod Fitted
 pub mod Left
 pub mod Listers
-pub mod Unmoved
+pub mod Named
 pub mod Alike
 pub mod NeedsTold
 pub mod PlanText

@@ -10,7 +10,7 @@
 //!   gives ([`channels_follow`], [`sources_follow`]);
 //! - it depends only on the pipes of a request, not on units, memories or direct channels ([`one_reference`]).
 //!
-//! `fitting` has laws of bridges: numbers of machines, and entries that fit. `whole` has the reference circuit with the
+//! `fitting` has laws of bridges: names of machines, and entries that fit. `whole` has the reference circuit with the
 //! models of the bridges in it. `text` writes the text of a cut.
 #![tactic(auto)]
 
@@ -20,8 +20,7 @@ mod text;
 mod whole;
 
 pub use fitting::{
-    bridge_machines, bridge_ports, bridges_attach, bridges_fit, bridges_known, channels_kept,
-    names_kept, open_ports, seats_apart, seats_known, seats_plain,
+    bridge_ports, bridges_attach, bridges_fit, bridges_known, machines_named, open_ports,
 };
 pub use laws::{
     channels_follow, nothing_piped, one_reference, outputs_kept, parts_follow, reference_formed,

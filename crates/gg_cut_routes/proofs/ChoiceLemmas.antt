@@ -86,7 +86,7 @@ module _ (hub : Hub) (base : IsBase hub) where
         where
           at : Chain hub (length hub.circuit.signals) w.signal x → Contains (givens_of (routes hub) (channels_from (routes hub) m)) w.signal
           at (Copy more t same taken own to rest) = absurd (own-no-wire hub base w h own)
-          at (Here more same taken plain free is) =
+          at (Here more same taken plain is) =
               let some =
               any-finds (λ v. is_number x (direct_of hub v)) hub.base
               (and_parts (list_any (λ v. is_number x (direct_of hub v)) hub.base) (not (list_any (λ t. is_number x (origin hub t)) (named_by hub (kept hub)))) gone).0 in
@@ -117,7 +117,7 @@ module _ (hub : Hub) (base : IsBase hub) where
   inner-stays m s other owner inner = by (origin hub s) refl
     where
       no-chain : (x : ℕ) → Chain hub (length hub.circuit.signals) s x → ⊥
-      no-chain x (Here more same taken plain free is) =
+      no-chain x (Here more same taken plain is) =
           let v = any-finds (λ (v : Wire). (v.consumer == 0) && (v.signal == s)) hub.base taken in
           let parts = and_parts (v.item.consumer == 0) (v.item.signal == s) v.passes in
           inner-none v.item v.among (eqb-true v.item.signal s parts.1)

@@ -10,6 +10,10 @@ use Rattle.gg_flat_tree.specs.Tree.{InstanceTree, memory_at, instance_at}
 use Rattle.gg_flat_tree.specs.Scoped.{memory_fields, stop_signals, output_signals}
 use Rattle.gg_flat.proofs.ListLemmas.{filter-cases, range-below}
 use Rattle.gg_order.specs.Marks.{is_marked}
+use Rattle.gg_partfile.specs.declared.request.BridgeEntry.{BridgeEntry}
+use Rattle.gg_cut_plan.specs.Ports.{ports_of}
+use Rattle.gg_cut_plan.specs.inside.Machines.{Counts}
+use Rattle.gg_cut_plan.specs.inside.Ports.{counts_of}
 use Rattle.gg_cut_plan.specs.declared.listed.Listed.{Listed}
 use Rattle.gg_cut_plan.specs.declared.wires.Wire.{Wire}
 use Rattle.gg_cut_plan.specs.inside.Listed.{AreMarks}
@@ -33,9 +37,12 @@ use Rattle.gg_cut_routes.proofs.ListTables.{flat-out, any-same}
 use Rattle.gg_cut_routes.proofs.HubTables.{side-taken, side-own, side-giver, made-same}
 use Rattle.gg_cut_routes.proofs.GoneTables.{names_by, names-same, append-same, gone-is, routes-are}
 
-module _ (circuit : FlatCircuit) (tree : InstanceTree) (order : List ℕ) (listed : Listed) (wires : List Wire) (globals memories : List ℕ) (can : CanRoute circuit tree order listed wires globals memories) where
-  abbrev entries : List ℕ
-  entries = signals_of (wires_of circuit tree listed) (channels_to (wires_of circuit tree listed) 0)
+module _ (circuit : FlatCircuit) (tree : InstanceTree) (order : List ℕ) (listed : Listed) (entries : List BridgeEntry) (wires : List Wire) (globals memories : List ℕ) (can : CanRoute circuit tree order listed entries wires globals memories) where
+  abbrev counts : Counts
+  counts = counts_of listed (ports_of circuit tree listed entries)
+
+  abbrev taken : List ℕ
+  taken = signals_of (wires_of circuit tree listed entries) (channels_to (wires_of circuit tree listed entries) 0)
 
   globals-low : (s : ℕ) → Contains globals s → s < length circuit.signals
   globals-low s h = All-contains (λ t. t < length circuit.signals) globals s can.choice.within h
@@ -54,12 +61,12 @@ module _ (circuit : FlatCircuit) (tree : InstanceTree) (order : List ℕ) (liste
       let at = subst (λ (l : List ℕ). Contains l t) can.scoped.outs (Contains-append_right (output_signals (instance_at tree 0).ports) (stop_signals tree) t h) in
       subst (λ s. s < length circuit.signals) (get_or_default circuit.outs at.0 0 t at.1 ∙ at.2) (can.formed.outs at.0 at.1)
 
-  module _ (piped driven : ℕ → Bool) (direct : Bool) where
+  module _ (piped : ℕ → Bool) (direct : Bool) where
     abbrev hub : Hub
-    hub = hub_of circuit tree listed piped driven direct
+    hub = hub_of circuit tree listed piped entries direct
 
-    pub base : IsBase (hub_of circuit tree listed piped driven direct)
-    base = base-of circuit tree listed piped driven direct can.formed can.fitting can.scoped can.apart can.once can.ends
+    pub base : IsBase (hub_of circuit tree listed piped entries direct)
+    base = base-of circuit tree listed piped entries direct can.formed can.fitting can.scoped can.apart can.once can.ends
 
     pub known-wires : All (λ (w : Wire). w.signal < length circuit.signals) wires
     known-wires = subst (All (λ (w : Wire). w.signal < length circuit.signals)) (sym can.base) base.known
@@ -70,7 +77,7 @@ module _ (circuit : FlatCircuit) (tree : InstanceTree) (order : List ℕ) (liste
     -- the fields of the hub's memories
     held : (t : ℕ) → Contains (flat_map (memory_fields circuit) memories) t ↔ Contains (hub_fields circuit tree listed) t
     held t = (
-      λ h. let m = flat-out (memory_fields circuit) memories t h in field-held circuit tree listed piped driven direct base m.item t ((can.banks m.item).0 m.among) m.has,
+      λ h. let m = flat-out (memory_fields circuit) memories t h in field-held circuit tree listed piped entries direct base m.item t ((can.banks m.item).0 m.among) m.has,
       λ h.
           let m = flat-out (λ j. memory_fields circuit (memory_at tree j).memory) (filter (λ j. memory_owner tree listed j == 0) (range_with_len 0 (length tree.memories))) t h in
           let k = filter-cases (λ j. memory_owner tree listed j == 0) (range_with_len 0 (length tree.memories)) m.item m.among in
@@ -82,7 +89,7 @@ module _ (circuit : FlatCircuit) (tree : InstanceTree) (order : List ℕ) (liste
     copied-known s t lt e = (copy-wide circuit can.formed s t lt (copied-is circuit s t e)).known
 
     module _ (sides : List Side) (are : AreSides wires globals sides) where
-      sides-are : AreSides (wires_of circuit tree listed) globals sides
+      sides-are : AreSides (wires_of circuit tree listed entries) globals sides
       sides-are = subst (λ (l : List Wire). AreSides l globals sides) can.base are
 
       abbrev mine : List ℕ
@@ -100,15 +107,15 @@ module _ (circuit : FlatCircuit) (tree : InstanceTree) (order : List ℕ) (liste
       pub mine-named : (s t : ℕ) → Contains (filter (λ s. is_makers (side_at sides s)) globals) s → Contains (driver_names circuit (driver_at circuit s)) t → t < length circuit.signals
       mine-named s t h named =
           let k = filter-cases (λ s. is_makers (side_at sides s)) globals s h in
-          globals-low t (names-chosen circuit globals entries (givens_of (wires_of circuit tree listed) (channels_from (wires_of circuit tree listed) 0)) memories can.choice s t k.among (λ e. free k.passes e) named)
+          globals-low t (names-chosen circuit globals taken (givens_of (wires_of circuit tree listed entries) (channels_from (wires_of circuit tree listed entries) 0)) memories can.choice s t k.among (λ e. free k.passes e) named)
         where
-          free : is_makers (side_at sides s) ≡ true → Contains entries s → ⊥
+          free : is_makers (side_at sides s) ≡ true → Contains taken s → ⊥
           free passes e =
               let w = wire-taken hub base 0 s e in
               makers-out (side_at sides s) passes
               (sym (side-taken hub base globals sides sides-are s) ∙ finds-any (λ (v : Wire). (v.consumer == 0) && (v.signal == s)) hub.base w.wire w.among (and_from (w.wire.consumer == 0) (w.wire.signal == s) (eq-eqb w.wire.consumer 0 w.consumer) (eq-eqb w.wire.signal s w.is)))
 
-      pub seen : (marks : List Bool) → ((s : ℕ) → (piped s || driven s) ≡ is_marked marks s) → IsSeen (hub_of circuit tree listed piped driven direct) circuit sides marks
+      pub seen : (marks : List Bool) → ((s : ℕ) → piped s ≡ is_marked marks s) → IsSeen (hub_of circuit tree listed piped entries direct) circuit sides marks
       seen marks same = record { is = refl; taken = side-taken hub base globals sides sides-are; own = side-own hub base globals sides sides-are can.choice.within can.signals; barred = same }
 
       mine-same : (s : ℕ) → Contains mine s ↔ Contains (made hub) s
@@ -140,24 +147,24 @@ module _ (circuit : FlatCircuit) (tree : InstanceTree) (order : List ℕ) (liste
           ∙ any-same (λ t. s == t) (names_by circuit memories mine ++ stop_signals tree) (named_by hub (made hub) ++ hub.stops)
           (append-same (names_by circuit memories mine) (named_by hub (made hub)) (stop_signals tree) (names-same hub memories held mine (made hub) mine-same))
 
-      module _ (origins straight : List (Option ℕ)) (named gone : List Bool) (long : length origins ≡ length circuit.signals) (found : AreOrigins (hub_of circuit tree listed piped driven direct) origins) (marks : AreMarks (names_by circuit memories (filter (λ s. is_makers (side_at sides s)) globals) ++ stop_signals tree) named)
-          (entered : AreEntries (direct_by circuit listed sides origins named direct) wires straight) (left : AreGone circuit sides (filter (λ s. is_makers (side_at sides s)) globals) memories origins straight gone) where
-        entered-base : AreEntries (direct_by circuit listed sides origins named direct) (wires_of circuit tree listed) straight
-        entered-base = subst (λ (l : List Wire). AreEntries (direct_by circuit listed sides origins named direct) l straight) can.base entered
+      module _ (origins straight : List (Option ℕ)) (named gone : List Bool) (long : length origins ≡ length circuit.signals) (found : AreOrigins (hub_of circuit tree listed piped entries direct) origins) (marks : AreMarks (names_by circuit memories (filter (λ s. is_makers (side_at sides s)) globals) ++ stop_signals tree) named)
+          (entered : AreEntries (direct_by circuit (counts_of listed (ports_of circuit tree listed entries)) sides origins named direct) wires straight) (left : AreGone circuit sides (filter (λ s. is_makers (side_at sides s)) globals) memories origins straight gone) where
+        entered-base : AreEntries (direct_by circuit (counts_of listed (ports_of circuit tree listed entries)) sides origins named direct) (wires_of circuit tree listed entries) straight
+        entered-base = subst (λ (l : List Wire). AreEntries (direct_by circuit (counts_of listed (ports_of circuit tree listed entries)) sides origins named direct) l straight) can.base entered
 
         made-low : (t : ℕ) → Contains (named_by hub (made hub)) t → t < length circuit.signals
         made-low t h = names-low t ((names-same hub memories held mine (made hub) mine-same t).1 h)
 
-        pub gone-are : (s : ℕ) → s < length circuit.signals → is_marked gone s ≡ is_gone (hub_of circuit tree listed piped driven direct) s
+        pub gone-are : (s : ℕ) → s < length circuit.signals → is_marked gone s ≡ is_gone (hub_of circuit tree listed piped entries direct) s
         gone-are =
-            gone-is hub base listed sides origins named (λ m. refl) (side-taken hub base globals sides sides-are) (side-giver hub base globals sides sides-are) found.each copied-known (barred-is named marks) straight entered-base
+            gone-is hub base counts sides origins named (λ m. refl) (side-taken hub base globals sides sides-are) (side-giver hub base globals sides sides-are) found.each copied-known (barred-is named marks) straight entered-base
             (side-own hub base globals sides sides-are can.choice.within can.signals) mine mine-same memories held made-low gone left long
 
-        pub routed-are : map (λ w. routed_by sides w (entry_at straight w.signal)) (filter (λ w. not (is_marked gone w.signal)) wires) ≡ routes (hub_of circuit tree listed piped driven direct)
+        pub routed-are : map (λ w. routed_by sides w (entry_at straight w.signal)) (filter (λ w. not (is_marked gone w.signal)) wires) ≡ routes (hub_of circuit tree listed piped entries direct)
         routed-are =
             ap (λ (l : List Wire). map (λ w. routed_by sides w (entry_at straight w.signal)) (filter (λ w. not (is_marked gone w.signal)) l)) can.base
-            ∙ routes-are hub base listed sides origins named (λ m. refl) (side-taken hub base globals sides sides-are) (side-giver hub base globals sides sides-are) found.each copied-known (barred-is named marks) straight entered-base
+            ∙ routes-are hub base counts sides origins named (λ m. refl) (side-taken hub base globals sides sides-are) (side-giver hub base globals sides sides-are) found.each copied-known (barred-is named marks) straight entered-base
             (side-own hub base globals sides sides-are can.choice.within can.signals) mine mine-same memories held made-low gone left long
 
-        pub routing-is : (routed : List Wire) → routed ≡ map (λ w. routed_by sides w (entry_at straight w.signal)) (filter (λ w. not (is_marked gone w.signal)) wires) → IsRouting (hub_of circuit tree listed piped driven direct) routed gone
+        pub routing-is : (routed : List Wire) → routed ≡ map (λ w. routed_by sides w (entry_at straight w.signal)) (filter (λ w. not (is_marked gone w.signal)) wires) → IsRouting (hub_of circuit tree listed piped entries direct) routed gone
         routing-is routed is = record { channels = is ∙ routed-are; leaves = gone-are }

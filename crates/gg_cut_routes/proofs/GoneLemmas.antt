@@ -73,7 +73,7 @@ module _ (hub : Hub) where
       copy (Some y) own e some = at (chain hub (length hub.circuit.signals) s y e)
         where
           at : Chain hub (length hub.circuit.signals) s y → is_gone hub t ≡ false
-          at (Here more same taken plain free is) = absurd (clash (is_taken hub s) taken (own-untaken hub s own))
+          at (Here more same taken plain is) = absurd (clash (is_taken hub s) taken (own-untaken hub s own))
           at (Copy more u same taken own to rest) =
               let is : u ≡ t = only-one u t (subst (λ (l : List ℕ). Contains l t) (copy-names hub.circuit s u (copied-is hub.circuit s u to)) h) in
               let from = subst (λ v. origin hub v ≡ Some y) is (origin-copy hub s u y own to e) in

@@ -10,8 +10,7 @@ use Rattle.gg_flat.specs.Circuit.{FlatCircuit, driver_at}
 use Rattle.gg_flat_tree.specs.Scoped.{memory_fields}
 use Rattle.gg_flat.proofs.ListLemmas.{Contains-filter, filter-cases, in-range, range-below}
 use Rattle.gg_order.specs.Marks.{is_marked}
-use Rattle.gg_cut_plan.specs.declared.listed.Listed.{Listed}
-use Rattle.gg_cut_plan.specs.Machines.{is_memory}
+use Rattle.gg_cut_plan.specs.inside.Machines.{Counts, silent_by}
 use Rattle.gg_cut_plan.specs.declared.wires.Wire.{Wire}
 use Rattle.gg_cut_routes.specs.declared.sides.Side.{Side}
 use Rattle.gg_cut_routes.specs.declared.sides.Side.TheVariants.{Other, Own, Out, In}
@@ -69,38 +68,38 @@ append-same xs ys rest same t = (
 
 -- ---- direct channels
 
-module _ (hub : Hub) (base : IsBase hub) (listed : Listed) (sides : List Side) (origins : List (Option ℕ)) (named : List Bool)
-    (memory : (m : ℕ) → hub.memory m ≡ is_memory listed m)
+module _ (hub : Hub) (base : IsBase hub) (counts : Counts) (sides : List Side) (origins : List (Option ℕ)) (named : List Bool)
+    (silent : (m : ℕ) → hub.silent m ≡ silent_by counts m)
     (taken : (s : ℕ) → is_taken hub s ≡ is_in (side_at sides s)) (givers : (s producer : ℕ) → side_at sides s ≡ In producer → giver hub s ≡ producer)
     (entries : (s : ℕ) → s < length hub.circuit.signals → entry_at origins s ≡ origin hub s)
     (next_known : (s t : ℕ) → s < length hub.circuit.signals → copied hub.circuit s ≡ Some t → t < length hub.circuit.signals)
     (barred : (s : ℕ) → is_marked named s ≡ list_any (λ t. s == t) (named_by hub (made hub) ++ hub.stops)) where
-  given-same : (x : ℕ) → is_taken hub x ≡ true → given_by listed x (side_at sides x) ≡ if_plain hub (Some x)
+  given-same : (x : ℕ) → is_taken hub x ≡ true → given_by counts x (side_at sides x) ≡ if_plain hub (Some x)
   given-same x e = by (side_at sides x) refl
     where
-      by : (side : Side) → side_at sides x ≡ side → given_by listed x side ≡ if_plain hub (Some x)
+      by : (side : Side) → side_at sides x ≡ side → given_by counts x side ≡ if_plain hub (Some x)
       by Other f = absurd (clash (is_taken hub x) e (taken x ∙ ap is_in f))
       by Own f = absurd (clash (is_taken hub x) e (taken x ∙ ap is_in f))
       by Out f = absurd (clash (is_taken hub x) e (taken x ∙ ap is_in f))
-      by (In producer) f = ap (λ b. if b then None else Some x) (sym (ap hub.memory (givers x producer f) ∙ memory producer))
+      by (In producer) f = ap (λ b. if b then None else Some x) (sym (ap hub.silent (givers x producer f) ∙ silent producer))
 
-  plain-same : (t : ℕ) → if_given listed sides (origin hub t) ≡ if_plain hub (origin hub t)
+  plain-same : (t : ℕ) → if_given counts sides (origin hub t) ≡ if_plain hub (origin hub t)
   plain-same t = by (origin hub t) refl
     where
-      by : (o : Option ℕ) → origin hub t ≡ o → if_given listed sides o ≡ if_plain hub o
+      by : (o : Option ℕ) → origin hub t ≡ o → if_given counts sides o ≡ if_plain hub o
       by None e = refl
       by (Some x) e = given-same x (chain-end hub (length hub.circuit.signals) t x e).taken
 
-  pub direct-same : (w : Wire) → w.signal < length hub.circuit.signals → direct_by hub.circuit listed sides origins named hub.direct w ≡ direct_of hub w
+  pub direct-same : (w : Wire) → w.signal < length hub.circuit.signals → direct_by hub.circuit counts sides origins named hub.direct w ≡ direct_of hub w
   direct-same w lt =
-      ap (λ b. if (hub.direct && (w.producer == 0)) && not b then if_given listed sides (origin_beyond hub.circuit origins w.signal) else None) (barred w.signal)
+      ap (λ b. if (hub.direct && (w.producer == 0)) && not b then if_given counts sides (origin_beyond hub.circuit origins w.signal) else None) (barred w.signal)
       ∙ ap (λ o. if may_be_direct hub w then o else None) (from (copied hub.circuit w.signal) refl)
     where
-      from : (o : Option ℕ) → copied hub.circuit w.signal ≡ o → if_given listed sides (option_and_then (entry_at origins) o) ≡ if_plain hub (option_and_then (origin hub) o)
+      from : (o : Option ℕ) → copied hub.circuit w.signal ≡ o → if_given counts sides (option_and_then (entry_at origins) o) ≡ if_plain hub (option_and_then (origin hub) o)
       from None e = refl
-      from (Some t) e = ap (if_given listed sides) (entries t (next_known w.signal t lt e)) ∙ plain-same t
+      from (Some t) e = ap (if_given counts sides) (entries t (next_known w.signal t lt e)) ∙ plain-same t
 
-  module _ (straight : List (Option ℕ)) (are : AreEntries (direct_by hub.circuit listed sides origins named hub.direct) hub.base straight) where
+  module _ (straight : List (Option ℕ)) (are : AreEntries (direct_by hub.circuit counts sides origins named hub.direct) hub.base straight) where
     lt-of : (w : Wire) → Contains hub.base w → w.signal < length hub.circuit.signals
     lt-of w h = All-contains (λ (v : Wire). v.signal < length hub.circuit.signals) hub.base w base.known h
 

@@ -6,6 +6,7 @@ pub mod ChoiceLemmas
 pub mod CutChoice
 pub mod CutLemmas
 pub mod SideLemmas
+pub mod BridgeLemmas
 pub mod WholeLemmas
 pub mod SideTables
 pub mod ListTables
@@ -23,4 +24,4 @@ pub mod UnitLemmas
 pub mod NothingLemmas
 pub mod RoutedLemmas
 pub mod AgreeLemmas
-pub mod BarredTables
+pub mod PipedTables

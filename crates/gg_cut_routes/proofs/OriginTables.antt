@@ -69,7 +69,7 @@ module _ (circuit : FlatCircuit) (order : List ℕ) (sides : List Side) (barred 
       ∙ by (side_at sides s) (is_marked barred s) (option_and_then (origin hub) (copied hub.circuit s))
       ∙ sym
       (origin-step hub order own (order-few hub.circuit order own) s low
-      ∙ ap (λ b. if b then (if hub.piped s || hub.driven s then None else Some s) else (if is_own hub s then option_and_then (origin hub) (copied hub.circuit s) else None)) (seen.taken s)
+      ∙ ap (λ b. if b then (if hub.piped s then None else Some s) else (if is_own hub s then option_and_then (origin hub) (copied hub.circuit s) else None)) (seen.taken s)
       ∙ ap (λ b. if is_in (side_at sides s) then (if b then None else Some s) else (if is_own hub s then option_and_then (origin hub) (copied hub.circuit s) else None)) (seen.barred s)
       ∙ ap (λ b. if is_in (side_at sides s) then (if is_marked barred s then None else Some s) else (if b then option_and_then (origin hub) (copied hub.circuit s) else None)) (seen.own s (ordered.signals i inside)))
     where

@@ -10,6 +10,7 @@ use Rattle.gg_part.specs.KeepsToTree.{KeepsToTree}
 use Rattle.gg_order.specs.Design.{Ordered, IsDesign}
 use Rattle.gg_order.specs.Marks.{is_marked}
 use Rattle.gg_flat.specs.inside.InOrder.{Precedes, IsAlong}
+use Rattle.gg_partfile.specs.declared.request.BridgeEntry.{BridgeEntry}
 use Rattle.gg_cut_plan.specs.declared.listed.Listed.{Listed}
 use Rattle.gg_cut_plan.specs.declared.wires.Wire.{Wire}
 use Rattle.gg_cut_plan.specs.Channels.{wires_of}
@@ -140,16 +141,16 @@ module _ (hub : Hub) (base : IsBase hub) where
 -- ---- what machines have
 
 -- the channels before, of a cut whose units lie apart
-pub plan-base : (design : Ordered) (listed : Listed) (piped driven : ℕ → Bool) (direct : Bool) → IsDesign design → KeepsToTree design.circuit design.tree → AreApart design.tree listed → IsBase (hub_of design.circuit design.tree listed piped driven direct)
-plan-base design listed piped driven direct is keeps apart =
-    base-of design.circuit design.tree listed piped driven direct is.formed keeps.fitting keeps.scoped apart (pairs-once design.circuit design.tree listed is.formed keeps.fitting keeps.scoped apart) (ends design.circuit design.tree listed keeps.fitting apart)
+pub plan-base : (design : Ordered) (listed : Listed) (piped : ℕ → Bool) (entries : List BridgeEntry) (direct : Bool) → IsDesign design → KeepsToTree design.circuit design.tree → AreApart design.tree listed → IsBase (hub_of design.circuit design.tree listed piped entries direct)
+plan-base design listed piped entries direct is keeps apart =
+    base-of design.circuit design.tree listed piped entries direct is.formed keeps.fitting keeps.scoped apart (pairs-once design.circuit design.tree listed entries is.formed keeps.fitting keeps.scoped apart) (ends design.circuit design.tree listed entries keeps.fitting apart)
 
-module _ (design : Ordered) (listed : Listed) (piped driven : ℕ → Bool) (direct : Bool) (is : IsDesign design) (keeps : KeepsToTree design.circuit design.tree) (apart : AreApart design.tree listed) (are : AreRoutes design listed (hub_of design.circuit design.tree listed piped driven direct)) where
+module _ (design : Ordered) (listed : Listed) (piped : ℕ → Bool) (entries : List BridgeEntry) (direct : Bool) (is : IsDesign design) (keeps : KeepsToTree design.circuit design.tree) (apart : AreApart design.tree listed) (are : AreRoutes design listed entries (hub_of design.circuit design.tree listed piped entries direct)) where
   abbrev hub : Hub
-  hub = hub_of design.circuit design.tree listed piped driven direct
+  hub = hub_of design.circuit design.tree listed piped entries direct
 
-  abbrev base : IsBase (hub_of design.circuit design.tree listed piped driven direct)
-  base = plan-base design listed piped driven direct is keeps apart
+  abbrev base : IsBase (hub_of design.circuit design.tree listed piped entries direct)
+  base = plan-base design listed piped entries direct is keeps apart
 
   plan-share : (m : ℕ) (globals memories : List ℕ) → ((s : ℕ) → Contains globals s ↔ (MakesBy hub m s ⊎ Takes (routes hub) m s)) → IsAlong design.order globals → ((k : ℕ) → Contains memories k ↔ HasMemory design.tree listed m k) → AllPairs (λ a b. a < b) memories
       → IsPlanShare design listed hub m (channels_to (routes hub) m) (channels_from (routes hub) m) globals memories
@@ -165,7 +166,7 @@ module _ (design : Ordered) (listed : Listed) (piped driven : ℕ → Bool) (dir
       }
 
   -- the hub has what stays of what it had
-  pub hub-plan-share : (gone : List Bool) (ins outs globals memories : List ℕ) → ((s : ℕ) → s < length design.circuit.signals → is_marked gone s ≡ is_gone hub s) → IsShareOf design listed (wires_of design.circuit design.tree listed) 0 ins outs globals memories
+  pub hub-plan-share : (gone : List Bool) (ins outs globals memories : List ℕ) → ((s : ℕ) → s < length design.circuit.signals → is_marked gone s ≡ is_gone hub s) → IsShareOf design listed (wires_of design.circuit design.tree listed entries) 0 ins outs globals memories
       → IsPlanShare design listed hub 0 (channels_to (routes hub) 0) (channels_from (routes hub) 0) (filter (stays_by (routes hub) gone) globals) memories
   hub-plan-share gone ins outs globals memories marks own =
       plan-share 0 (filter (stays_by (routes hub) gone) globals) memories
@@ -178,7 +179,7 @@ module _ (design : Ordered) (listed : Listed) (piped driven : ℕ → Bool) (dir
       known s (inr h) = let w = wire-taken hub base 0 s h in subst (λ t. t < length design.circuit.signals) w.is (All-contains (λ (v : Wire). v.signal < length design.circuit.signals) hub.base w.wire base.known w.among)
 
   -- every other machine has what it had
-  pub other-plan-share : (m : ℕ) (ins outs globals memories : List ℕ) → m ≢ 0 → IsShareOf design listed (wires_of design.circuit design.tree listed) m ins outs globals memories
+  pub other-plan-share : (m : ℕ) (ins outs globals memories : List ℕ) → m ≢ 0 → IsShareOf design listed (wires_of design.circuit design.tree listed entries) m ins outs globals memories
       → IsPlanShare design listed hub m (channels_to (routes hub) m) (channels_from (routes hub) m) globals memories
   other-plan-share m ins outs globals memories other own =
       plan-share m globals memories (λ s. (λ h. has-still hub base m s other ((own.signals s).0 h), λ has. (own.signals s).1 (had hub base m s has))) own.along own.banks own.ascend

@@ -108,7 +108,7 @@ module _ (hub : Hub) (base : IsBase hub) where
   port-stays w h other = by (origin hub w.signal) refl
     where
       no-chain : (x : ℕ) → Chain hub (length hub.circuit.signals) w.signal x → ⊥
-      no-chain x (Here more same taken plain free is) = let v = into w.signal taken in other (ap (λ (u : Wire). u.consumer) (same-wire w v.wire h v.among (sym v.is)) ∙ v.consumer)
+      no-chain x (Here more same taken plain is) = let v = into w.signal taken in other (ap (λ (u : Wire). u.consumer) (same-wire w v.wire h v.among (sym v.is)) ∙ v.consumer)
       no-chain x (Copy more t same taken own to rest) = own-no-wire w h own
 
       by : (o : Option ℕ) → origin hub w.signal ≡ o → is_gone hub w.signal ≡ false

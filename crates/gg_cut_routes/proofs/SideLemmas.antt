@@ -1,18 +1,21 @@
 -- Sources and trays of the routed channels.
-use Rattle.std.proofs.Common.{◌≡◌, ◌≢◌, ℕ, suc, ◌+◌, ◌<◌, length, Bool, true, false, sym, ◌∙◌, ap, subst, refl, inl, inr, ◌⊎◌, arith}
+use Rattle.std.proofs.Common.{◌≡◌, ◌≢◌, ℕ, suc, ◌+◌, ◌<◌, List, length, None, Bool, true, false, sym, ◌∙◌, ap, subst, refl, inl, inr, ◌⊎◌, arith}
 use Rattle.std.specs.Prelude.{if◌then◌else◌, Contains}
 use Rattle.gg_flat.specs.Line.{value_at}
 use Rattle.gg_flat.specs.Circuit.{FlatCircuit, readers_at}
 use Rattle.gg_flat_tree.specs.Tree.{InstanceTree, instance_at, memory_at, parent_place}
 use Rattle.gg_flat_tree.specs.Scoped.{memory_fields}
+use Rattle.gg_partfile.specs.declared.request.BridgeEntry.{BridgeEntry}
 use Rattle.gg_cut_plan.specs.declared.wires.Wire.{Wire}
 use Rattle.gg_cut_plan.specs.declared.listed.Listed.{Listed}
 use Rattle.gg_cut_plan.specs.Listed.{owner_of}
-use Rattle.gg_cut_plan.specs.Machines.{first_memory, first_source, first_tray}
-use Rattle.gg_cut_plan.specs.Channels.{wire}
+use Rattle.gg_cut_plan.specs.Machines.{first_memory, first_source}
+use Rattle.gg_cut_plan.specs.Ports.{Bridges, giver_of, keeper_of, ports_of}
+use Rattle.gg_cut_plan.specs.Channels.{wire, wires_of}
+use Rattle.gg_cut_plan.proofs.PortLemmas.{giver-low, keeper-source, source-once, source-takes-none, tray-gives-none, tray-once}
 use Rattle.gg_cut_plan.proofs.WireLemmas.{unit_or_hub-below, owner-below}
-use Rattle.gg_cut_split.proofs.ClosedLemmas.KindLemmas.{IsSourceWire, IsTrayWire, IsInto, IsWordWire, Kind, OfSource, OfPort, OfField, OfTray, outside_unit, outside_memory, kind-of, source-wire, tray-wire}
-use Rattle.gg_cut_plan.specs.Direct.{Hub, hub_of, routes}
+use Rattle.gg_cut_split.proofs.ClosedLemmas.KindLemmas.{IsInputWire, IsOutputWire, IsInto, IsWordWire, Kind, OfInput, OfPort, OfField, OfOutput, outside_unit, outside_memory, kind-of, input-wire, output-wire}
+use Rattle.gg_cut_plan.specs.Direct.{Hub, routes}
 use Rattle.gg_cut_routes.specs.inside.Routes.{GivesInput, TakesOutput}
 use Rattle.gg_cut_routes.proofs.RouteLemmas.{IsBase, port-stays}
 use Rattle.gg_cut_routes.proofs.ChoiceLemmas.{From, Same, Origin, gives-out, gives-all, takes-out, takes-in}
@@ -43,16 +46,19 @@ module _ (hub : Hub) (base : IsBase hub) (m : ℕ) (other : m ≢ 0) where
       by s (Same v stays plain) = none v.wire v.among v.producer
       by s (Origin v into) = none v.wire v.among v.producer
 
-module _ (circuit : FlatCircuit) (tree : InstanceTree) (listed : Listed) where
-  -- the ends of a channel: a source's, a tray's, or one between other machines
-  pub data Ends (w : Wire) : Type 0 where
-    Source : IsSourceWire circuit listed w → Ends w
-    Inner : w.producer < first_source listed → w.consumer < first_source listed → Ends w
-    Tray : IsTrayWire circuit tree listed w → Ends w
+module _ (circuit : FlatCircuit) (tree : InstanceTree) (listed : Listed) (entries : List BridgeEntry) where
+  abbrev b : Bridges
+  b = ports_of circuit tree listed entries
 
-  ends-of : (w : Wire) → Kind circuit tree listed w → Ends w
-  ends-of w (OfSource f) = Source f
-  ends-of w (OfTray f) = Tray f
+  -- the ends of a channel: of a top input, of an out-signal, or between other machines
+  pub data Ends (w : Wire) : Type 0 where
+    OfIn : IsInputWire circuit tree listed entries w → Ends w
+    Inner : w.producer < first_source listed → w.consumer < first_source listed → Ends w
+    OfOut : IsOutputWire circuit tree listed entries w → Ends w
+
+  ends-of : (w : Wire) → Kind circuit tree listed entries w → Ends w
+  ends-of w (OfInput f) = OfIn f
+  ends-of w (OfOutput f) = OfOut f
   ends-of w (OfPort p) = subst Ends p.is (by p.port.is_input)
     where
       low : outside_unit tree listed p.unit < suc (length listed.units)
@@ -71,45 +77,56 @@ module _ (circuit : FlatCircuit) (tree : InstanceTree) (listed : Listed) where
       by (inl into) = let known = f.known in Inner (omega (arith, low, into.producer)) (omega (arith, known, into.consumer))
       by (inr word) = let known = f.known in subst Ends (sym word.is) (Inner (omega (arith, known)) (omega (arith, low)))
 
-  source-one : (p : ℕ) (v : Wire) → Ends v → v.producer ≡ first_source listed + p → v.signal ≡ value_at circuit.ins p
-  source-one p v (Source f) e =
-      let is = ap (λ (w : Wire). w.producer) f.is in
-      let same : f.place ≡ p = omega (arith, is, e) in
-      ap (λ (w : Wire). w.signal) f.is ∙ ap (value_at circuit.ins) same
-  source-one p v (Inner a b) e = absurd (omega (arith, a, e))
-  source-one p v (Tray f) e =
-      let is = ap (λ (w : Wire). w.producer) f.is in
-      let low = owner-below circuit tree listed (value_at circuit.outs f.place) in
-      absurd (omega (arith, is, e, low))
+  -- ---- an input that no bridge drives, and its source
 
-  source-none : (p : ℕ) (v : Wire) → p < length circuit.ins → Ends v → v.consumer ≢ first_source listed + p
-  source-none p v lt (Source f) e = let is = ap (λ (w : Wire). w.consumer) f.is in omega (arith, is, e)
-  source-none p v lt (Inner a b) e = omega (arith, b, e)
-  source-none p v lt (Tray f) e = let is = ap (λ (w : Wire). w.consumer) f.is in omega (arith, is, e, lt)
+  source-one : (p : ℕ) (v : Wire) → p < length circuit.ins → (ports_of circuit tree listed entries).driver p ≡ None → Ends v → v.producer ≡ giver_of (ports_of circuit tree listed entries) p → v.signal ≡ value_at circuit.ins p
+  source-one p v lt none (OfIn f) e =
+      let is = ap (λ (w : Wire). w.producer) f.is in
+      ap (λ (w : Wire). w.signal) f.is ∙ ap (value_at circuit.ins) (source-once b p f.place lt none (sym is ∙ e))
+  source-one p v lt none (Inner from to) e = let low = giver-low b p in absurd (omega (arith, from, e, low))
+  source-one p v lt none (OfOut f) e =
+      let is = ap (λ (w : Wire). w.producer) f.is in
+      let own = owner-below circuit tree listed (value_at circuit.outs f.place) in
+      let low = giver-low b p in
+      absurd (omega (arith, is, e, own, low))
 
-  tray-one : (p : ℕ) (v : Wire) → Ends v → v.consumer ≡ first_tray circuit listed + p → v.signal ≡ value_at circuit.outs p
-  tray-one p v (Source f) e = let is = ap (λ (w : Wire). w.consumer) f.is in absurd (omega (arith, is, e))
-  tray-one p v (Inner a b) e = absurd (omega (arith, b, e))
-  tray-one p v (Tray f) e =
+  source-none : (p : ℕ) (v : Wire) → p < length circuit.ins → (ports_of circuit tree listed entries).driver p ≡ None → Ends v → v.consumer ≢ giver_of (ports_of circuit tree listed entries) p
+  source-none p v lt none (OfIn f) e = let is = ap (λ (w : Wire). w.consumer) f.is in let low = giver-low b p in omega (arith, is, e, low)
+  source-none p v lt none (Inner from to) e = let low = giver-low b p in omega (arith, to, e, low)
+  source-none p v lt none (OfOut f) e = source-takes-none b p f.place lt none (sym (ap (λ (w : Wire). w.consumer) f.is) ∙ e)
+
+  -- ---- an output that no bridge sees, or a stop, and its tray
+
+  tray-one : (p : ℕ) (v : Wire) → p < length circuit.outs → (ports_of circuit tree listed entries).viewer p ≡ None → Ends v → v.consumer ≡ keeper_of (ports_of circuit tree listed entries) p → v.signal ≡ value_at circuit.outs p
+  tray-one p v lt none (OfIn f) e = let is = ap (λ (w : Wire). w.consumer) f.is in let low = keeper-source b p in absurd (omega (arith, is, e, low))
+  tray-one p v lt none (Inner from to) e = let low = keeper-source b p in absurd (omega (arith, to, e, low))
+  tray-one p v lt none (OfOut f) e =
       let is = ap (λ (w : Wire). w.consumer) f.is in
-      let same : f.place ≡ p = omega (arith, is, e) in
-      ap (λ (w : Wire). w.signal) f.is ∙ ap (value_at circuit.outs) same
+      ap (λ (w : Wire). w.signal) f.is ∙ ap (value_at circuit.outs) (tray-once b p f.place lt none (sym is ∙ e))
 
-  tray-none : (p : ℕ) (v : Wire) → Ends v → v.producer ≢ first_tray circuit listed + p
-  tray-none p v (Source f) e = let is = ap (λ (w : Wire). w.producer) f.is in let low = f.known in omega (arith, is, e, low)
-  tray-none p v (Inner a b) e = omega (arith, a, e)
-  tray-none p v (Tray f) e =
+  tray-none : (p : ℕ) (v : Wire) → p < length circuit.outs → (ports_of circuit tree listed entries).viewer p ≡ None → Ends v → v.producer ≢ keeper_of (ports_of circuit tree listed entries) p
+  tray-none p v lt none (OfIn f) e = tray-gives-none b p f.place lt f.known none (sym (ap (λ (w : Wire). w.producer) f.is) ∙ e)
+  tray-none p v lt none (Inner from to) e = let low = keeper-source b p in omega (arith, from, e, low)
+  tray-none p v lt none (OfOut f) e =
       let is = ap (λ (w : Wire). w.producer) f.is in
-      let low = owner-below circuit tree listed (value_at circuit.outs f.place) in
-      omega (arith, is, e, low)
+      let own = owner-below circuit tree listed (value_at circuit.outs f.place) in
+      let low = keeper-source b p in
+      omega (arith, is, e, own, low)
 
-  module _ (piped driven : ℕ → Bool) (direct : Bool) (base : IsBase (hub_of circuit tree listed piped driven direct)) where
-    pub source-routes : (p : ℕ) → p < length circuit.ins → GivesInput (routes (hub_of circuit tree listed piped driven direct)) (first_source listed + p) (value_at circuit.ins p)
-    source-routes p lt =
-        source-still (hub_of circuit tree listed piped driven direct) base (first_source listed + p) (λ e. omega (arith, e)) (wire (value_at circuit.ins p) (first_source listed + p) 0) (source-wire circuit tree listed p lt) refl
-        (λ v h e. source-one p v (ends-of v (kind-of circuit tree listed v h)) e) (λ v h e. source-none p v lt (ends-of v (kind-of circuit tree listed v h)) e)
+  module _ (hub : Hub) (base : IsBase hub) (is : hub.base ≡ wires_of circuit tree listed entries) where
+    pub ends-at : (v : Wire) → Contains hub.base v → Ends v
+    ends-at v h = ends-of v (kind-of circuit tree listed entries v (subst (λ (l : List Wire). Contains l v) is h))
 
-    pub tray-routes : (p : ℕ) → p < length circuit.outs → TakesOutput (routes (hub_of circuit tree listed piped driven direct)) (first_tray circuit listed + p) (value_at circuit.outs p)
-    tray-routes p lt =
-        tray-still (hub_of circuit tree listed piped driven direct) base (first_tray circuit listed + p) (λ e. omega (arith, e)) (wire (value_at circuit.outs p) (owner_of circuit tree listed (value_at circuit.outs p)) (first_tray circuit listed + p)) (tray-wire circuit tree listed p lt) refl
-        (λ v h e. tray-one p v (ends-of v (kind-of circuit tree listed v h)) e) (λ v h e. tray-none p v (ends-of v (kind-of circuit tree listed v h)) e)
+    pub source-routes : (p : ℕ) → p < length circuit.ins → (ports_of circuit tree listed entries).driver p ≡ None → GivesInput (routes hub) (giver_of (ports_of circuit tree listed entries) p) (value_at circuit.ins p)
+    source-routes p lt none =
+        let m = giver_of b p in
+        let w = wire (value_at circuit.ins p) m 0 in
+        source-still hub base m (λ e. let low = giver-low b p in absurd (omega (arith, e, low))) w (subst (λ (l : List Wire). Contains l w) (sym is) (input-wire circuit tree listed entries p lt)) refl
+        (λ v h e. source-one p v lt none (ends-at v h) e) (λ v h e. source-none p v lt none (ends-at v h) e)
+
+    pub tray-routes : (p : ℕ) → p < length circuit.outs → (ports_of circuit tree listed entries).viewer p ≡ None → TakesOutput (routes hub) (keeper_of (ports_of circuit tree listed entries) p) (value_at circuit.outs p)
+    tray-routes p lt none =
+        let m = keeper_of b p in
+        let w = wire (value_at circuit.outs p) (owner_of circuit tree listed (value_at circuit.outs p)) m in
+        tray-still hub base m (λ e. let low = keeper-source b p in absurd (omega (arith, e, low))) w (subst (λ (l : List Wire). Contains l w) (sym is) (output-wire circuit tree listed entries p lt)) refl
+        (λ v h e. tray-one p v lt none (ends-at v h) e) (λ v h e. tray-none p v lt none (ends-at v h) e)

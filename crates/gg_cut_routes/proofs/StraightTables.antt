@@ -8,10 +8,9 @@ use Rattle.std.proofs.lemmas.List.Elements.{Contains-append_left, Contains-appen
 use Rattle.gg_flat.specs.Circuit.{FlatCircuit}
 use Rattle.gg_flat.proofs.ListLemmas.{here}
 use Rattle.gg_order.specs.Marks.{is_marked}
-use Rattle.gg_cut_plan.specs.declared.listed.Listed.{Listed}
 use Rattle.gg_cut_plan.specs.declared.wires.Wire.{Wire}
 use Rattle.gg_cut_plan.specs.Channels.{wire}
-use Rattle.gg_cut_plan.specs.Machines.{is_memory}
+use Rattle.gg_cut_plan.specs.inside.Machines.{Counts, silent_by}
 use Rattle.gg_cut_plan.specs.Plan.{wire_at}
 use Rattle.gg_cut_routes.specs.declared.sides.Side.{Side}
 use Rattle.gg_cut_routes.specs.declared.sides.Side.TheVariants.{Other, Own, Out, In}
@@ -20,20 +19,20 @@ use Rattle.gg_cut_routes.specs.inside.Tables.{side_at, entry_at, AreKnown, origi
 use Rattle.gg_cut_plan.proofs.OriginLemmas.{any-finds, finds-any, clash, some-clash, same-value}
 
 -- what a direct channel is given by is a signal
-pub direct-known : (circuit : FlatCircuit) (listed : Listed) (sides : List Side) (origins : List (Option ℕ)) (named : List Bool) (direct : Bool) (count : ℕ) (w : Wire) (x : ℕ) → AreKnown count origins → direct_by circuit listed sides origins named direct w ≡ Some x → x < count
-direct-known circuit listed sides origins named direct count w x known e = by ((direct && (w.producer == 0)) && not (is_marked named w.signal)) e
+pub direct-known : (circuit : FlatCircuit) (counts : Counts) (sides : List Side) (origins : List (Option ℕ)) (named : List Bool) (direct : Bool) (count : ℕ) (w : Wire) (x : ℕ) → AreKnown count origins → direct_by circuit counts sides origins named direct w ≡ Some x → x < count
+direct-known circuit counts sides origins named direct count w x known e = by ((direct && (w.producer == 0)) && not (is_marked named w.signal)) e
   where
     from : (y producer : ℕ) (b : Bool) → y < count → (if b then None else Some y) ≡ Some x → x < count
     from y producer true lt f = absurd (some-clash x None f refl)
     from y producer false lt f = subst (λ t. t < count) (same-value y x (Some y) refl f) lt
 
-    side : (y : ℕ) (side : Side) → y < count → given_by listed y side ≡ Some x → x < count
+    side : (y : ℕ) (side : Side) → y < count → given_by counts y side ≡ Some x → x < count
     side y Other lt f = absurd (some-clash x None f refl)
     side y Own lt f = absurd (some-clash x None f refl)
     side y Out lt f = absurd (some-clash x None f refl)
-    side y (In producer) lt f = from y producer (is_memory listed producer) lt f
+    side y (In producer) lt f = from y producer (silent_by counts producer) lt f
 
-    end : (o : Option ℕ) → ((y : ℕ) → o ≡ Some y → y < count) → if_given listed sides o ≡ Some x → x < count
+    end : (o : Option ℕ) → ((y : ℕ) → o ≡ Some y → y < count) → if_given counts sides o ≡ Some x → x < count
     end None low f = absurd (some-clash x None f refl)
     end (Some y) low f = side y (side_at sides y) (low y refl) f
 
@@ -41,7 +40,7 @@ direct-known circuit listed sides origins named direct count w x known e = by ((
     beyond None y f = absurd (some-clash y None f refl)
     beyond (Some t) y f = known t y f
 
-    by : (b : Bool) → (if b then if_given listed sides (origin_beyond circuit origins w.signal) else None) ≡ Some x → x < count
+    by : (b : Bool) → (if b then if_given counts sides (origin_beyond circuit origins w.signal) else None) ≡ Some x → x < count
     by true f = end (origin_beyond circuit origins w.signal) (λ y g. beyond (copied circuit w.signal) y g) f
     by false f = absurd (some-clash x None f refl)
 

@@ -28,11 +28,11 @@ module _ (hub : Hub) (order : List ℕ) (ordered : IsOrder hub.circuit order) wh
   stable zero p s inside at less = absurd (omega (arith, less))
   stable (suc n) p s inside at less = by (is_taken hub s) (is_own hub s) (copied hub.circuit s) refl refl refl (λ q t lt is low. stable n q t lt is low)
     where
-      open-by : (k : ℕ) (taken own : Bool) (to : Option ℕ) → is_taken hub s ≡ taken → is_own hub s ≡ own → copied hub.circuit s ≡ to → origin_within hub (suc k) s ≡ (if taken then (if hub.piped s || hub.driven s then None else Some s) else (if own then option_and_then (origin_within hub k) to else None))
+      open-by : (k : ℕ) (taken own : Bool) (to : Option ℕ) → is_taken hub s ≡ taken → is_own hub s ≡ own → copied hub.circuit s ≡ to → origin_within hub (suc k) s ≡ (if taken then (if hub.piped s then None else Some s) else (if own then option_and_then (origin_within hub k) to else None))
       open-by k taken own to a b c =
-          ap (λ x. if x then (if hub.piped s || hub.driven s then None else Some s) else (if is_own hub s then option_and_then (origin_within hub k) (copied hub.circuit s) else None)) a
-          ∙ ap (λ x. if taken then (if hub.piped s || hub.driven s then None else Some s) else (if x then option_and_then (origin_within hub k) (copied hub.circuit s) else None)) b
-          ∙ ap (λ x. if taken then (if hub.piped s || hub.driven s then None else Some s) else (if own then option_and_then (origin_within hub k) x else None)) c
+          ap (λ x. if x then (if hub.piped s then None else Some s) else (if is_own hub s then option_and_then (origin_within hub k) (copied hub.circuit s) else None)) a
+          ∙ ap (λ x. if taken then (if hub.piped s then None else Some s) else (if x then option_and_then (origin_within hub k) (copied hub.circuit s) else None)) b
+          ∙ ap (λ x. if taken then (if hub.piped s then None else Some s) else (if own then option_and_then (origin_within hub k) x else None)) c
 
       by : (taken own : Bool) (to : Option ℕ) → is_taken hub s ≡ taken → is_own hub s ≡ own → copied hub.circuit s ≡ to → ((q t : ℕ) → q < length order → value_at order q ≡ t → q < n → origin_within hub n t ≡ origin_within hub (suc n) t) → origin_within hub (suc n) s ≡ origin_within hub (suc (suc n)) s
       by true own to a b c rest = open-by n true own to a b c ∙ sym (open-by (suc n) true own to a b c)
@@ -47,7 +47,7 @@ module _ (hub : Hub) (order : List ℕ) (ordered : IsOrder hub.circuit order) wh
           ∙ sym (open-by (suc n) false true (Some t) a b c)
 
   -- The origins one after the other: that of a signal is told by those of the signals before it.
-  pub origin-step : length order ≤ length hub.circuit.signals → (s : ℕ) → s < length hub.circuit.signals → origin hub s ≡ (if is_taken hub s then (if hub.piped s || hub.driven s then None else Some s) else (if is_own hub s then option_and_then (origin hub) (copied hub.circuit s) else None))
+  pub origin-step : length order ≤ length hub.circuit.signals → (s : ℕ) → s < length hub.circuit.signals → origin hub s ≡ (if is_taken hub s then (if hub.piped s then None else Some s) else (if is_own hub s then option_and_then (origin hub) (copied hub.circuit s) else None))
   origin-step few s lt =
       let at = place-of hub.circuit order s ordered lt in
       let within = at.within in

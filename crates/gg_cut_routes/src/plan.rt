@@ -1,27 +1,28 @@
 //! The channels of a plan, and what stays of the hub's signals.
-ghost use Rattle.std.specs.Prelude.{◌≡◌, ℕ, ◌<◌, ◌&&◌, not, length, filter, All, IfOk};
+ghost use Rattle.std.specs.Prelude.{◌≡◌, ℕ, ◌<◌, ◌&&◌, [], not, length, filter, All, IfOk};
 ghost use Rattle.gg_part.specs.KeepsToTree.{KeepsToTree};
 ghost use Rattle.gg_order.specs.Marks.{is_marked};
 ghost use Rattle.gg_cut_plan.specs.Channels.{wires_of};
-ghost use Rattle.gg_cut_plan.specs.Direct.{plan_hub, plan_routes, is_gone};
+ghost use Rattle.gg_cut_plan.specs.Direct.{plan_hub, plan_wires, is_gone};
 ghost use Rattle.gg_cut_plan.specs.Listed.{listed_of};
+ghost use Rattle.gg_cut_split.specs.inside.Ends.{AreEndsOf};
 ghost use Rattle.gg_cut_split.specs.inside.Apart.{AreApart};
 ghost use Rattle.gg_cut_split.specs.inside.IsShare.{AreShares};
 ghost use Rattle.gg_cut_routes.specs.inside.Routes.{AreRoutes};
 ghost use Rattle.gg_cut_routes.specs.inside.Share.{is_past_hub, past_hub, stays_by};
 
-use crate::barred::barred_of;
 use crate::laws::channels_routed;
 use crate::lists::push_if;
+use crate::piped::piped_of;
 use crate::routing::{Channels, routes};
 use gg_cut_plan::{Listed, Wire, marks_of};
-use gg_cut_split::Split;
+use gg_cut_split::{Ends, Split};
 use gg_order::Design;
 use gg_partfile::Request;
 use std::alloc::{AllocError, Global};
 
-/// The channels of the plan of a request that lists this, and what leaves. `split` has the channels before and what each machine has. If the request
-/// has no direct channels, all channels stay as they are.
+/// The channels of the plan of a request that lists this, and what leaves. `ends` has the machines at the ports of the top, and `split` the channels
+/// before and what each machine has. If the request has no direct channels, all channels stay as they are.
 ///
 /// # Errors
 ///
@@ -31,22 +32,33 @@ pub fn plan_routes(
     design: &Design,
     request: &Request,
     listed: &Listed,
+    ends: &Ends,
     split: &Split,
 ) -> Result<Channels, AllocError>
     requires keeps { KeepsToTree design.now.circuit design.now.tree }
     requires listed { listed.now ≡ listed_of design.now.tree request.now }
     requires apart { AreApart design.now.tree listed.now }
-    requires wires { split.now.wires ≡ wires_of design.now.circuit design.now.tree listed.now }
-    requires shares { AreShares design.now listed.now split.now.shares }
-    ensures wires { IfOk result (λ found. found.wires ≡ plan_routes design.now.circuit design.now.tree request.now) }
+    requires ends { AreEndsOf design.now.circuit design.now.tree listed.now request.now.bridges ends.now }
+    requires wires { split.now.wires ≡ wires_of design.now.circuit design.now.tree listed.now request.now.bridges }
+    requires shares { AreShares design.now listed.now request.now.bridges split.now.shares }
+    ensures wires { IfOk result (λ found. found.wires ≡ plan_wires design.now.circuit design.now.tree request.now) }
     ensures gone { IfOk result (λ found. (s : ℕ) → s < length design.now.circuit.signals → is_marked found.gone s ≡ is_gone (plan_hub design.now.circuit design.now.tree request.now) s) }
-    ensures sound { IfOk result (λ found. AreRoutes design.now listed.now (plan_hub design.now.circuit design.now.tree request.now)) }
+    ensures sound { IfOk result (λ found. AreRoutes design.now listed.now request.now.bridges (plan_hub design.now.circuit design.now.tree request.now)) }
 {
     channels_routed();
     // for the invariant only
     let _ = design.order();
-    let barred = barred_of(alloc, design.piece(), request)?;
-    let channels = routes(alloc, design, listed, split, &barred, request.direct)?;
+    let piped = piped_of(alloc, design.piece(), request.pipe.as_slice())?;
+    let channels = routes(
+        alloc,
+        design,
+        listed,
+        request.bridges.as_slice(),
+        split,
+        ends.numbering,
+        &piped,
+        request.direct,
+    )?;
     Ok(channels)
 }
 

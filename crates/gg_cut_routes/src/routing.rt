@@ -1,8 +1,10 @@
 //! The channels of a cut with direct channels.
-ghost use Rattle.std.specs.Prelude.{◌≡◌, false, length, IfOk};
+ghost use Rattle.std.specs.Prelude.{◌≡◌, length, IfOk};
 ghost use Rattle.gg_part.specs.KeepsToTree.{KeepsToTree};
 ghost use Rattle.gg_order.specs.Marks.{is_marked};
 ghost use Rattle.gg_cut_plan.specs.Channels.{wires_of};
+ghost use Rattle.gg_cut_plan.specs.Ports.{ports_of};
+ghost use Rattle.gg_cut_plan.specs.inside.Ports.{counts_of};
 ghost use Rattle.gg_cut_split.specs.inside.Apart.{AreApart};
 ghost use Rattle.gg_cut_split.specs.inside.IsShare.{AreShares};
 ghost use Rattle.gg_cut_plan.specs.Direct.{hub_of, routes};
@@ -17,11 +19,12 @@ use crate::routed::routed_of;
 use crate::sides::{made_of, routed_sides};
 use crate::straight::straight_of;
 use gg_bits::Items;
-use gg_cut_plan::{Listed, Wire, marks_of};
+use gg_cut_plan::{Listed, Numbering, Wire, marks_of};
 use gg_cut_split::{Split, channels_once};
 use gg_flat::Piece;
 use gg_flat_tree::Tree;
 use gg_order::Design;
+use gg_partfile::BridgeEntry;
 use std::alloc::{AllocError, Global};
 
 /// The channels of a cut, and what leaves the plan.
@@ -40,8 +43,8 @@ impl Drop for Channels {
     }
 }
 
-/// The channels of a cut and what leaves. `split` has the channels before and what each machine has; `barred` marks the signals that
-/// are no origins, whatever gives them. If `direct` is false, all channels stay as they are.
+/// The channels of a cut and what leaves. `split` has the channels before and what each machine has, and `piped` marks the signals of piped channels.
+/// If `direct` is false, all channels stay as they are.
 ///
 /// # Errors
 ///
@@ -49,19 +52,22 @@ impl Drop for Channels {
 pub fn routes(
     alloc: Global,
     design: &Design,
-    listed: &Listed,
+    _listed: &Listed,
+    _entries: &[BridgeEntry],
     split: &Split,
-    barred: &[bool],
+    numbering: Numbering,
+    piped: &[bool],
     direct: bool,
 ) -> Result<Channels, AllocError>
     requires keeps { KeepsToTree design.now.circuit design.now.tree }
-    requires apart { AreApart design.now.tree listed.now }
-    requires wires { split.now.wires ≡ wires_of design.now.circuit design.now.tree listed.now }
-    requires shares { AreShares design.now listed.now split.now.shares }
-    requires barred { length barred.now ≡ length design.now.circuit.signals }
-    ensures wires { IfOk result (λ found. found.wires ≡ routes (hub_of design.now.circuit design.now.tree listed.now (is_marked barred.now) (λ s. false) direct)) }
-    ensures gone { IfOk result (λ found. MarksGone (hub_of design.now.circuit design.now.tree listed.now (is_marked barred.now) (λ s. false) direct) found.gone) }
-    ensures sound { AreRoutes design.now listed.now (hub_of design.now.circuit design.now.tree listed.now (is_marked barred.now) (λ s. false) direct) }
+    requires apart { AreApart design.now.tree _listed.now }
+    requires wires { split.now.wires ≡ wires_of design.now.circuit design.now.tree _listed.now _entries.now }
+    requires shares { AreShares design.now _listed.now _entries.now split.now.shares }
+    requires numbers { numbering ≡ counts_of _listed.now (ports_of design.now.circuit design.now.tree _listed.now _entries.now) }
+    requires piped { length piped.now ≡ length design.now.circuit.signals }
+    ensures wires { IfOk result (λ found. found.wires ≡ routes (hub_of design.now.circuit design.now.tree _listed.now (is_marked piped.now) _entries.now direct)) }
+    ensures gone { IfOk result (λ found. MarksGone (hub_of design.now.circuit design.now.tree _listed.now (is_marked piped.now) _entries.now direct) found.gone) }
+    ensures sound { AreRoutes design.now _listed.now _entries.now (hub_of design.now.circuit design.now.tree _listed.now (is_marked piped.now) _entries.now direct) }
 {
     channels_routed();
     channels_once();
@@ -71,11 +77,13 @@ pub fn routes(
         design.piece(),
         design.tree(),
         design.order(),
-        listed,
+        _listed,
+        _entries,
         split.wires.as_slice(),
         hub.globals.as_slice(),
         hub.memories.as_slice(),
-        barred,
+        numbering,
+        piped,
         direct,
     )?;
     Ok(channels)
@@ -87,26 +95,29 @@ fn routes_of(
     piece: &Piece,
     tree: &Tree,
     order: &[u32],
-    listed: &Listed,
+    _listed: &Listed,
+    _entries: &[BridgeEntry],
     wires: &[Wire],
     globals: &[u32],
     memories: &[u32],
-    barred: &[bool],
+    numbering: Numbering,
+    piped: &[bool],
     direct: bool,
 ) -> Result<Channels, AllocError>
-    requires can { CanRoute piece.now tree.now order.now listed.now wires.now globals.now memories.now }
-    requires barred { length barred.now ≡ length piece.now.signals }
-    ensures { IfOk result (λ found. IsRouting (hub_of piece.now tree.now listed.now (is_marked barred.now) (λ s. false) direct) found.wires found.gone) }
+    requires can { CanRoute piece.now tree.now order.now _listed.now _entries.now wires.now globals.now memories.now }
+    requires numbers { numbering ≡ counts_of _listed.now (ports_of piece.now tree.now _listed.now _entries.now) }
+    requires piped { length piped.now ≡ length piece.now.signals }
+    ensures { IfOk result (λ found. IsRouting (hub_of piece.now tree.now _listed.now (is_marked piped.now) _entries.now direct) found.wires found.gone) }
 {
     let count = piece.signal_count();
     let sides = routed_sides(alloc, count, wires, globals)?;
     let made = made_of(alloc, &sides, globals)?;
-    let origins = origins_of(alloc, piece, order, &sides, barred)?;
+    let origins = origins_of(alloc, piece, order, &sides, piped)?;
     let mut names = names_of(alloc, piece, &made, memories)?;
     push_stops(&mut names, tree)?;
     let named = marks_of(alloc, count, &names)?;
     let straight = straight_of(
-        alloc, piece, listed, wires, &sides, &origins, &named, direct,
+        alloc, piece, numbering, wires, &sides, &origins, &named, direct,
     )?;
     let gone = gone_of(alloc, piece, &sides, &made, memories, &origins, &straight)?;
     let routed = routed_of(alloc, wires, &sides, &straight, &gone)?;

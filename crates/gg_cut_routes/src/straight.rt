@@ -5,11 +5,11 @@ ghost use Rattle.gg_cut_routes.specs.inside.Tables.{AreKnown, origin_beyond, giv
 
 use crate::origins::{nones, origin_beyond};
 use crate::sides::Side;
-use gg_cut_plan::{Listed, Wire};
+use gg_cut_plan::{Numbering, Wire};
 use gg_flat::Piece;
 use std::alloc::{AllocError, Global};
 
-// For the signal of each direct channel the in-channel that is given in its place. `named` marks what the hub names and the stops.
+// For the signal of each direct channel the in-channel that is given in its place. `numbering` has the machines' numbers; `named` marks what the hub names and the stops.
 //
 // # Errors
 //
@@ -17,7 +17,7 @@ use std::alloc::{AllocError, Global};
 pub(crate) fn straight_of(
     alloc: Global,
     piece: &Piece,
-    listed: &Listed,
+    numbering: Numbering,
     wires: &[Wire],
     sides: &[Side],
     origins: &[Option<u32>],
@@ -33,12 +33,12 @@ pub(crate) fn straight_of(
     requires named { length named.now ≡ length piece.now.signals }
     ensures count { IfOk result (λ straight. length straight.items ≡ length piece.now.signals) }
     ensures known { IfOk result (λ straight. AreKnown (length piece.now.signals) straight.items) }
-    ensures entries { IfOk result (λ straight. AreEntries (direct_by piece.now listed.now sides.now origins.now named.now direct) wires.now straight.items) }
+    ensures entries { IfOk result (λ straight. AreEntries (direct_by piece.now numbering sides.now origins.now named.now direct) wires.now straight.items) }
 {
     let mut straight = nones(alloc, piece.signal_count())?;
     for place in 0..wires.len() {
         let wire = wires[place];
-        let origin = direct_of(piece, listed, &wire, sides, origins, named, direct);
+        let origin = direct_of(piece, numbering, &wire, sides, origins, named, direct);
         straight[wire.signal as usize] = origin;
     }
     Ok(straight)
@@ -47,7 +47,7 @@ pub(crate) fn straight_of(
 // The in-channel that is given in place of a channel, if the channel is direct.
 fn direct_of(
     piece: &Piece,
-    listed: &Listed,
+    numbering: Numbering,
     wire: &Wire,
     sides: &[Side],
     origins: &[Option<u32>],
@@ -60,19 +60,19 @@ fn direct_of(
     requires origins { length origins.now ≡ length piece.now.signals }
     requires known { AreKnown (length piece.now.signals) origins.now }
     requires named { length named.now ≡ length piece.now.signals }
-    ensures { result ≡ direct_by piece.now listed.now sides.now origins.now named.now direct wire.now }
+    ensures { result ≡ direct_by piece.now numbering sides.now origins.now named.now direct wire.now }
 {
     if direct && wire.producer == 0 && !named[wire.signal as usize] {
-        direct_origin(piece, listed, sides, origins, wire.signal)
+        direct_origin(piece, numbering, sides, origins, wire.signal)
     } else {
         None
     }
 }
 
-// The origin of what a signal is a copy of, if no memory gives it.
+// The origin of what a signal is a copy of, if a source or a unit gives it.
 fn direct_origin(
     piece: &Piece,
-    listed: &Listed,
+    numbering: Numbering,
     sides: &[Side],
     origins: &[Option<u32>],
     signal: u32,
@@ -82,21 +82,21 @@ fn direct_origin(
     requires sides { length sides.now ≡ length piece.now.signals }
     requires origins { length origins.now ≡ length piece.now.signals }
     requires known { AreKnown (length piece.now.signals) origins.now }
-    ensures { result ≡ if_given listed.now sides.now (origin_beyond piece.now origins.now signal) }
+    ensures { result ≡ if_given numbering sides.now (origin_beyond piece.now origins.now signal) }
 {
     match origin_beyond(piece, origins, signal) {
-        Some(origin) => given(listed, origin, sides[origin as usize]),
+        Some(origin) => given(numbering, origin, sides[origin as usize]),
         None => None,
     }
 }
 
-// An in-channel, if no memory gives it.
-fn given(listed: &Listed, signal: u32, side: Side) -> Option<u32>
-    ensures { result ≡ given_by listed.now signal side }
+// An in-channel, if a source or a unit gives it.
+fn given(numbering: Numbering, signal: u32, side: Side) -> Option<u32>
+    ensures { result ≡ given_by numbering signal side }
 {
     match side {
         Side::In(producer) => {
-            if listed.memory_of(producer as usize).is_some() {
+            if numbering.is_silent(producer) {
                 None
             } else {
                 Some(signal)

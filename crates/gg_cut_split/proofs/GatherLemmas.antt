@@ -26,49 +26,37 @@ LeftFrom-more m old lists new is before =
     }
 
 -- the machines before m have their shares, and the lists of the others are as they were
-pub record GatheredTo (ins outs globals memories : List (List ℕ)) (m : ℕ) (now_ins now_outs now_globals now_memories : List (List ℕ)) (shares : List Share) : Type 0 where
-  pub ins_left : LeftFrom m ins now_ins
-  pub outs_left : LeftFrom m outs now_outs
+pub record GatheredTo (globals memories : List (List ℕ)) (m : ℕ) (now_globals now_memories : List (List ℕ)) (shares : List Share) : Type 0 where
   pub globals_left : LeftFrom m globals now_globals
   pub memories_left : LeftFrom m memories now_memories
-  pub made : AreGathered ins outs globals memories m shares
+  pub made : AreGathered globals memories m shares
 
-pub GatheredTo-none : (ins outs globals memories : List (List ℕ)) (shares : List Share) → shares ≡ [] → GatheredTo ins outs globals memories 0 ins outs globals memories shares
-GatheredTo-none ins outs globals memories shares none =
+pub GatheredTo-none : (globals memories : List (List ℕ)) (shares : List Share) → shares ≡ [] → GatheredTo globals memories 0 globals memories shares
+GatheredTo-none globals memories shares none =
     record {
-      ins_left = LeftFrom-all ins;
-      outs_left = LeftFrom-all outs;
       globals_left = LeftFrom-all globals;
       memories_left = LeftFrom-all memories;
       made = record { many = ap length none; each = λ m any lt. absurd (omega (arith, lt)) };
     }
 
-module _ (ins outs globals memories : List (List ℕ)) (m : ℕ) (now_ins now_outs now_globals now_memories : List (List ℕ)) (shares : List Share) (before : GatheredTo ins outs globals memories m now_ins now_outs now_globals now_memories shares) where
-  same-share : (share : Share) → IsGathered now_ins now_outs now_globals now_memories m share → IsGathered ins outs globals memories m share
-  same-share share is =
-      record {
-        takes = is.takes ∙ before.ins_left.left m (omega arith);
-        gives = is.gives ∙ before.outs_left.left m (omega arith);
-        signals = is.signals ∙ before.globals_left.left m (omega arith);
-        banks = is.banks ∙ before.memories_left.left m (omega arith);
-      }
+module _ (globals memories : List (List ℕ)) (m : ℕ) (now_globals now_memories : List (List ℕ)) (shares : List Share) (before : GatheredTo globals memories m now_globals now_memories shares) where
+  same-share : (share : Share) → IsGathered now_globals now_memories m share → IsGathered globals memories m share
+  same-share share is = record { signals = is.signals ∙ before.globals_left.left m (omega arith); banks = is.banks ∙ before.memories_left.left m (omega arith) }
 
-  pub GatheredTo-more : (share : Share) (new_ins new_outs new_globals new_memories : List (List ℕ)) (new : List Share) → IsGathered now_ins now_outs now_globals now_memories m share → new_ins ≡ set now_ins m [] → new_outs ≡ set now_outs m [] → new_globals ≡ set now_globals m [] → new_memories ≡ set now_memories m [] → new ≡ shares ++ share ∷ [] → GatheredTo ins outs globals memories (m + 1) new_ins new_outs new_globals new_memories new
-  GatheredTo-more share new_ins new_outs new_globals new_memories new is i o g b pushed =
+  pub GatheredTo-more : (share : Share) (new_globals new_memories : List (List ℕ)) (new : List Share) → IsGathered now_globals now_memories m share → new_globals ≡ set now_globals m [] → new_memories ≡ set now_memories m [] → new ≡ shares ++ share ∷ [] → GatheredTo globals memories (m + 1) new_globals new_memories new
+  GatheredTo-more share new_globals new_memories new is g b pushed =
       record {
-        ins_left = LeftFrom-more m ins now_ins new_ins i before.ins_left;
-        outs_left = LeftFrom-more m outs now_outs new_outs o before.outs_left;
         globals_left = LeftFrom-more m globals now_globals new_globals g before.globals_left;
         memories_left = LeftFrom-more m memories now_memories new_memories b before.memories_left;
         made = record { many = ap length pushed ∙ length_push shares share ∙ ap (λ n. n + 1) before.made.many; each = λ k any lt. by k any lt (cases_lt k m) };
       }
     where
-      by : (k : ℕ) (any : Share) → k < m + 1 → (k < m) ⊎ (m ≤ k) → IsGathered ins outs globals memories k (slice_index_or new k any)
+      by : (k : ℕ) (any : Share) → k < m + 1 → (k < m) ⊎ (m ≤ k) → IsGathered globals memories k (slice_index_or new k any)
       by k any lt (inl less) =
-          subst (IsGathered ins outs globals memories k)
+          subst (IsGathered globals memories k)
           (sym (ap (λ (l : List Share). slice_index_or l k any) pushed ∙ get_or_append_left shares (share ∷ []) any k (omega (arith, less, before.made.many))))
           (before.made.each k any less)
       by k any lt (inr le) =
           let same : k ≡ m = omega (arith, lt, le) in
-          subst (λ j. IsGathered ins outs globals memories j (slice_index_or new j any)) (sym same)
-          (subst (IsGathered ins outs globals memories m) (sym (ap (λ (l : List Share). slice_index_or l m any) pushed ∙ get_or_push shares share any m before.made.many)) (same-share share is))
+          subst (λ j. IsGathered globals memories j (slice_index_or new j any)) (sym same)
+          (subst (IsGathered globals memories m) (sym (ap (λ (l : List Share). slice_index_or l m any) pushed ∙ get_or_push shares share any m before.made.many)) (same-share share is))

@@ -6,3 +6,7 @@ pub mod GatherLemmas
 pub mod PartingLemmas
 pub mod ClosedLemmas
 pub mod AgainLemmas
+pub mod NumberLemmas
+pub mod TakerLemmas
+pub mod EndsLemmas
+pub mod NamedLemmas

@@ -1,5 +1,5 @@
 -- Numbered lists, item by item; and the parent of an instance.
-use Rattle.std.proofs.Common.{◌≡◌, ℕ, zero, suc, ◌+◌, ◌<◌, List, [], ◌∷◌, ◌++◌, length, get_or, take, map, refl, sym, ◌∙◌, ap, ap₂, Some, None, append_assoc, arith}
+use Rattle.std.proofs.Common.{◌≡◌, ℕ, zero, suc, ◌+◌, ◌<◌, List, [], ◌∷◌, ◌++◌, length, get_or, take, map, refl, sym, ◌∙◌, ap, ap₂, subst, Some, None, append_assoc, arith}
 use Rattle.std.specs.Prelude.{Option, All}
 use Rattle.std.proofs.lemmas.List.{append-nil, get_or_default}
 use Rattle.gg_flat_tree.specs.declared.tree.InstancePort.{InstancePort}
@@ -9,13 +9,14 @@ use Rattle.gg_flat.specs.Line.{value_at}
 use Rattle.gg_flat.specs.Circuit.{FlatCircuit, readers_at}
 use Rattle.gg_flat_tree.specs.Scoped.{writers_at}
 use Rattle.gg_flat_tree.specs.Tree.{InstanceTree, IsTree, instance_at, memory_at, parent_place}
+use Rattle.gg_partfile.specs.declared.request.BridgeEntry.{BridgeEntry}
 use Rattle.gg_cut_plan.specs.declared.wires.Wire.{Wire}
 use Rattle.gg_cut_plan.specs.declared.listed.Listed.{Listed}
 use Rattle.gg_cut_plan.specs.Listed.{owner_of, owner_of_instance}
-use Rattle.gg_cut_plan.specs.inside.Machines.{Counts, numbering_of}
-use Rattle.gg_cut_plan.specs.Machines.{first_unit, first_memory, first_source, first_tray, source_after, tray_after}
-use Rattle.gg_cut_plan.specs.Channels.{wire, numbered, flattened, port_wire, port_wires, reader_wires, writer_wires, field_wires, source_wires, tray_wires, wires_of}
-use Rattle.gg_cut_split.specs.inside.Spread.{held_wires}
+use Rattle.gg_cut_plan.specs.Ports.{giver_of, keeper_of, ports_of}
+use Rattle.gg_cut_plan.specs.Machines.{first_unit, first_memory}
+use Rattle.gg_cut_plan.specs.Channels.{wire, numbered, flattened, port_wire, port_wires, reader_wires, writer_wires, field_wires, input_wires, output_wires, wires_of}
+use Rattle.gg_cut_split.specs.inside.Spread.{given_wires, held_wires}
 use Rattle.gg_cut_plan.proofs.KnownLemmas.{parents-before}
 
 numbered-more : {A B : Type 0} (f : ℕ → A → List B) (n : ℕ) (xs : List A) (i : ℕ) (d : A) → i < length xs → numbered f n (take (suc i) xs) ≡ numbered f n (take i xs) ++ f (n + i) (get_or xs i d)
@@ -33,10 +34,13 @@ numbered-pushed f n xs i d old now new lt is before =
     ∙ append_assoc old (numbered f n (take i xs)) (f (n + i) (get_or xs i d))
     ∙ ap (λ l. old ++ l) (sym (numbered-more f n xs i d lt) ∙ ap (λ k. numbered f n (take k xs)) (let same : suc i ≡ i + 1 = omega arith in same))
 
--- two functions that agree on the items of a list
-pub numbered-same : {A B : Type 0} (f g : ℕ → A → List B) (n : ℕ) (xs : List A) → ((k : ℕ) → All (λ x. f k x ≡ g k x) xs) → numbered f n xs ≡ numbered g n xs
+-- two functions that agree on the items of a list and their numbers
+pub numbered-same : {A B : Type 0} (f g : ℕ → A → List B) (n : ℕ) (xs : List A) → ((k : ℕ) (d : A) → k < length xs → f (n + k) (get_or xs k d) ≡ g (n + k) (get_or xs k d)) → numbered f n xs ≡ numbered g n xs
 numbered-same f g n [] same = refl
-numbered-same f g n (x ∷ xs) same = ap₂ (λ a b. a ++ b) (same n 0 x (omega arith)) (numbered-same f g (suc n) xs (λ k i d lt. same k (suc i) d (omega (arith, lt))))
+numbered-same f g n (x ∷ xs) same =
+    ap₂ (λ a b. a ++ b)
+    (subst (λ k. f k x ≡ g k x) (let here : n + 0 ≡ n = omega arith in here) (same 0 x (omega arith)))
+    (numbered-same f g (suc n) xs (λ k d lt. subst (λ j. f j (get_or xs k d) ≡ g j (get_or xs k d)) (let next : n + suc k ≡ suc n + k = omega arith in next) (same (suc k) d (omega (arith, lt)))))
 
 -- the place of an instance's parent is a place of the tree
 pub parent-known : (circuit : FlatCircuit) (tree : InstanceTree) → IsTree circuit tree → (k : ℕ) → k < length tree.instances → parent_place (instance_at tree k).parent < length tree.instances
@@ -83,19 +87,20 @@ memory-step circuit tree listed owners place j first number memory outside now n
 -- ---- all channels
 
 -- the channels that are added one kind after another are those of the cut
-pub channels-all : (circuit : FlatCircuit) (tree : InstanceTree) (listed : Listed) (counts : Counts) (holders ins units outs : List ℕ) (none sources ports fields all : List Wire) → counts ≡ numbering_of circuit listed → ins ≡ circuit.ins → units ≡ listed.units → outs ≡ circuit.outs
+pub channels-all : (circuit : FlatCircuit) (tree : InstanceTree) (listed : Listed) (entries : List BridgeEntry) (givers holders keepers ins units outs : List ℕ) (none inputs ports fields all : List Wire) → ins ≡ circuit.ins → units ≡ listed.units → outs ≡ circuit.outs
+    → ((p : ℕ) → p < length circuit.ins → value_at givers p ≡ giver_of (ports_of circuit tree listed entries) p) → ((p : ℕ) → p < length circuit.outs → value_at keepers p ≡ keeper_of (ports_of circuit tree listed entries) p)
     → All (λ s. value_at holders s ≡ owner_of circuit tree listed s) circuit.outs → none ≡ []
-    → sources ≡ none ++ numbered source_wires (source_after counts.units counts.memories) ins → ports ≡ sources ++ numbered (port_wires tree units) first_unit units
-    → fields ≡ ports ++ numbered (field_wires circuit tree listed.units) (first_memory listed) listed.memories → all ≡ fields ++ numbered (held_wires holders) (tray_after counts.units counts.memories counts.ins) outs
-    → all ≡ wires_of circuit tree listed
-channels-all circuit tree listed counts holders ins units outs none sources ports fields all is i u o held n s p f a =
+    → inputs ≡ none ++ numbered (given_wires givers) 0 ins → ports ≡ inputs ++ numbered (port_wires tree units) first_unit units
+    → fields ≡ ports ++ numbered (field_wires circuit tree listed.units) (first_memory listed) listed.memories → all ≡ fields ++ numbered (held_wires holders keepers) 0 outs
+    → all ≡ wires_of circuit tree listed entries
+channels-all circuit tree listed entries givers holders keepers ins units outs none inputs ports fields all i u o gives takes held n s p f a =
     a
-    ∙ ap₂ (λ (l : List Wire) (t : List Wire). l ++ t) (f ∙ ap (λ (l : List Wire). l ++ memory_wires) (p ∙ ap₂ (λ (l : List Wire) (us : List ℕ). l ++ numbered (port_wires tree us) first_unit us) (s ∙ ap₂ (λ (l : List Wire) (t : List Wire). l ++ t) n from_sources) u)) to_trays
-    ∙ append_assoc (source_part ++ unit_part) memory_wires tray_part
-    ∙ append_assoc source_part unit_part (memory_wires ++ tray_part)
+    ∙ ap₂ (λ (l : List Wire) (t : List Wire). l ++ t) (f ∙ ap (λ (l : List Wire). l ++ memory_wires) (p ∙ ap₂ (λ (l : List Wire) (us : List ℕ). l ++ numbered (port_wires tree us) first_unit us) (s ∙ ap₂ (λ (l : List Wire) (t : List Wire). l ++ t) n from_inputs) u)) to_outputs
+    ∙ append_assoc (input_part ++ unit_part) memory_wires output_part
+    ∙ append_assoc input_part unit_part (memory_wires ++ output_part)
   where
-    source_part : List Wire
-    source_part = numbered source_wires (first_source listed) circuit.ins
+    input_part : List Wire
+    input_part = numbered (input_wires (ports_of circuit tree listed entries)) 0 circuit.ins
 
     unit_part : List Wire
     unit_part = numbered (port_wires tree listed.units) first_unit listed.units
@@ -103,13 +108,16 @@ channels-all circuit tree listed counts holders ins units outs none sources port
     memory_wires : List Wire
     memory_wires = numbered (field_wires circuit tree listed.units) (first_memory listed) listed.memories
 
-    tray_part : List Wire
-    tray_part = numbered (tray_wires circuit tree listed) (first_tray circuit listed) circuit.outs
+    output_part : List Wire
+    output_part = numbered (output_wires circuit tree listed (ports_of circuit tree listed entries)) 0 circuit.outs
 
-    from_sources : numbered source_wires (source_after counts.units counts.memories) ins ≡ numbered source_wires (first_source listed) circuit.ins
-    from_sources = ap₂ (λ (c : Counts) (l : List ℕ). numbered source_wires (source_after c.units c.memories) l) is i
+    from_inputs : numbered (given_wires givers) 0 ins ≡ numbered (input_wires (ports_of circuit tree listed entries)) 0 circuit.ins
+    from_inputs =
+        ap (λ (l : List ℕ). numbered (given_wires givers) 0 l) i
+        ∙ numbered-same (given_wires givers) (input_wires (ports_of circuit tree listed entries)) 0 circuit.ins (λ k d lt. ap (λ m. wire (get_or circuit.ins k d) m 0 ∷ []) (gives (0 + k) (omega (arith, lt))))
 
-    to_trays : numbered (held_wires holders) (tray_after counts.units counts.memories counts.ins) outs ≡ numbered (tray_wires circuit tree listed) (first_tray circuit listed) circuit.outs
-    to_trays =
-        ap₂ (λ (c : Counts) (l : List ℕ). numbered (held_wires holders) (tray_after c.units c.memories c.ins) l) is o
-        ∙ numbered-same (held_wires holders) (tray_wires circuit tree listed) (first_tray circuit listed) circuit.outs (λ k i d lt. ap (λ m. wire (get_or circuit.outs i d) m k ∷ []) (held i d lt))
+    to_outputs : numbered (held_wires holders keepers) 0 outs ≡ numbered (output_wires circuit tree listed (ports_of circuit tree listed entries)) 0 circuit.outs
+    to_outputs =
+        ap (λ (l : List ℕ). numbered (held_wires holders keepers) 0 l) o
+        ∙ numbered-same (held_wires holders keepers) (output_wires circuit tree listed (ports_of circuit tree listed entries)) 0 circuit.outs
+        (λ k d lt. ap₂ (λ m n. wire (get_or circuit.outs k d) m n ∷ []) (held k d lt) (takes (0 + k) (omega (arith, lt))))

@@ -15,6 +15,7 @@ use Rattle.gg_flat_tree.specs.Scoped.{IsScoped}
 use Rattle.gg_flat.specs.Order.{IsOrder}
 use Rattle.gg_flat.proofs.ListLemmas.{Contains-map, Contains-filter, filter-cases, in-range, range-below}
 use Rattle.gg_flat.specs.inside.InOrder.{Precedes, IsAlong}
+use Rattle.gg_partfile.specs.declared.request.BridgeEntry.{BridgeEntry}
 use Rattle.gg_cut_plan.specs.declared.wires.Wire.{Wire}
 use Rattle.gg_cut_plan.specs.declared.listed.Listed.{Listed}
 use Rattle.gg_cut_plan.specs.Listed.{owner_of, first_place, has_signal, unit_or_hub, memory_owner}
@@ -44,68 +45,68 @@ along-once order globals once along i j d less lt same =
     let p = along i j d less lt in
     once p.first p.second 0 p.before p.within (p.first_is ∙ same ∙ sym p.second_is)
 
-module _ (circuit : FlatCircuit) (tree : InstanceTree) (order : List ℕ) (listed : Listed) (formed : IsWellFormed circuit) (fits : IsTree circuit tree) (scoped : IsScoped circuit tree) (ordered : IsOrder circuit order) (apart : AreApart tree listed) where
+module _ (circuit : FlatCircuit) (tree : InstanceTree) (order : List ℕ) (listed : Listed) (entries : List BridgeEntry) (formed : IsWellFormed circuit) (fits : IsTree circuit tree) (scoped : IsScoped circuit tree) (ordered : IsOrder circuit order) (apart : AreApart tree listed) where
   known-in : (s : ℕ) → Contains order s → s < length circuit.signals
   known-in s h = let lt = ordered.signals h.0 h.1 in subst (λ t. t < length circuit.signals) (get_or_default order h.0 0 s h.1 ∙ h.2) lt
 
   -- a signal that no channel carries belongs to the machine of the instance that has it
-  pub inner-owner : (owners : List ℕ) → ((s : ℕ) → value_at owners s ≡ unit_or_hub (first_place (has_signal tree s) listed.units)) → (s : ℕ) → s < length circuit.signals → ((c : ℕ) → c < length (wires_of circuit tree listed) → ¬ ((wire_at (wires_of circuit tree listed) c).signal ≡ s)) → owner_of circuit tree listed s ≡ value_at owners s
+  pub inner-owner : (owners : List ℕ) → ((s : ℕ) → value_at owners s ≡ unit_or_hub (first_place (has_signal tree s) listed.units)) → (s : ℕ) → s < length circuit.signals → ((c : ℕ) → c < length (wires_of circuit tree listed entries) → ¬ ((wire_at (wires_of circuit tree listed entries) c).signal ≡ s)) → owner_of circuit tree listed s ≡ value_at owners s
   inner-owner owners owns s lt inner =
       let at = innermost circuit tree fits s lt in
-      owner-signal circuit tree listed fits scoped apart at.place s at.is (inner-plain circuit tree listed fits scoped apart s inner)
+      owner-signal circuit tree listed fits scoped apart at.place s at.is (inner-plain circuit tree listed entries fits scoped apart s inner)
       ∙ sym (place-signal circuit tree listed fits apart at.place s at.is)
       ∙ sym (owns s)
 
-  module _ (owners : List ℕ) (channels : List (Option ℕ)) (owns : (s : ℕ) → value_at owners s ≡ unit_or_hub (first_place (has_signal tree s) listed.units)) (marked : AreChannels (wires_of circuit tree listed) channels) (many : length channels ≡ length circuit.signals) (m : ℕ) where
-    channel-is : (s : ℕ) → s < length circuit.signals → IsChannelBelow (wires_of circuit tree listed) (length (wires_of circuit tree listed)) s (slice_index_or channels s None)
+  module _ (owners : List ℕ) (channels : List (Option ℕ)) (owns : (s : ℕ) → value_at owners s ≡ unit_or_hub (first_place (has_signal tree s) listed.units)) (marked : AreChannels (wires_of circuit tree listed entries) channels) (many : length channels ≡ length circuit.signals) (m : ℕ) where
+    channel-is : (s : ℕ) → s < length circuit.signals → IsChannelBelow (wires_of circuit tree listed entries) (length (wires_of circuit tree listed entries)) s (slice_index_or channels s None)
     channel-is s lt = marked s (omega (arith, lt, many))
 
     -- a machine makes or takes each signal that is spread to it
-    spread-gets : (s : ℕ) → s < length circuit.signals → (found : Option ℕ) → IsChannelBelow (wires_of circuit tree listed) (length (wires_of circuit tree listed)) s found → has_by (wires_of circuit tree listed) (value_at owners s) m found ≡ true → Gets circuit tree listed fits scoped apart m s
+    spread-gets : (s : ℕ) → s < length circuit.signals → (found : Option ℕ) → IsChannelBelow (wires_of circuit tree listed entries) (length (wires_of circuit tree listed entries)) s found → has_by (wires_of circuit tree listed entries) (value_at owners s) m found ≡ true → Gets circuit tree listed entries fits scoped apart m s
     spread-gets s lt None inner e = inl (inl (lt, inner-owner owners owns s lt inner ∙ true-eqb (value_at owners s) m (sym e), inner))
-    spread-gets s lt (Some c) at e = by (or_cases ((wire_at (wires_of circuit tree listed) c).producer == m) ((wire_at (wires_of circuit tree listed) c).consumer == m) e)
+    spread-gets s lt (Some c) at e = by (or_cases ((wire_at (wires_of circuit tree listed entries) c).producer == m) ((wire_at (wires_of circuit tree listed entries) c).consumer == m) e)
       where
-        by : (((wire_at (wires_of circuit tree listed) c).producer == m) ≡ true) ⊎ (((wire_at (wires_of circuit tree listed) c).consumer == m) ≡ true) → Gets circuit tree listed fits scoped apart m s
+        by : (((wire_at (wires_of circuit tree listed entries) c).producer == m) ≡ true) ⊎ (((wire_at (wires_of circuit tree listed entries) c).consumer == m) ≡ true) → Gets circuit tree listed entries fits scoped apart m s
         by (inl p) =
-            inl (inr (subst (λ (l : List ℕ). Contains l s) (sym (givens-same circuit tree listed (channels_from (wires_of circuit tree listed) m)))
-            (subst (λ t. Contains (signals_of (wires_of circuit tree listed) (channels_from (wires_of circuit tree listed) m)) t) at.1 (chosen-in (wires_of circuit tree listed) (λ w. w.producer == m) (wire_at (wires_of circuit tree listed) c) (wire-among (wires_of circuit tree listed) c at.0) p))))
-        by (inr p) = inr (subst (λ t. Contains (signals_of (wires_of circuit tree listed) (channels_to (wires_of circuit tree listed) m)) t) at.1 (chosen-in (wires_of circuit tree listed) (λ w. w.consumer == m) (wire_at (wires_of circuit tree listed) c) (wire-among (wires_of circuit tree listed) c at.0) p))
+            inl (inr (subst (λ (l : List ℕ). Contains l s) (sym (givens-same circuit tree listed entries (channels_from (wires_of circuit tree listed entries) m)))
+            (subst (λ t. Contains (signals_of (wires_of circuit tree listed entries) (channels_from (wires_of circuit tree listed entries) m)) t) at.1 (chosen-in (wires_of circuit tree listed entries) (λ w. w.producer == m) (wire_at (wires_of circuit tree listed entries) c) (wire-among (wires_of circuit tree listed entries) c at.0) p))))
+        by (inr p) = inr (subst (λ t. Contains (signals_of (wires_of circuit tree listed entries) (channels_to (wires_of circuit tree listed entries) m)) t) at.1 (chosen-in (wires_of circuit tree listed entries) (λ w. w.consumer == m) (wire_at (wires_of circuit tree listed entries) c) (wire-among (wires_of circuit tree listed entries) c at.0) p))
 
-    same-wire : (s c : ℕ) (w : Wire) → c < length (wires_of circuit tree listed) → (wire_at (wires_of circuit tree listed) c).signal ≡ s → Contains (wires_of circuit tree listed) w → w.signal ≡ s → w ≡ wire_at (wires_of circuit tree listed) c
-    same-wire s c w lt is among of = channel-one circuit tree listed fits scoped apart w (wire_at (wires_of circuit tree listed) c) among (wire-among (wires_of circuit tree listed) c lt) (of ∙ sym is)
+    same-wire : (s c : ℕ) (w : Wire) → c < length (wires_of circuit tree listed entries) → (wire_at (wires_of circuit tree listed entries) c).signal ≡ s → Contains (wires_of circuit tree listed entries) w → w.signal ≡ s → w ≡ wire_at (wires_of circuit tree listed entries) c
+    same-wire s c w lt is among of = channel-one circuit tree listed entries fits scoped apart w (wire_at (wires_of circuit tree listed entries) c) among (wire-among (wires_of circuit tree listed entries) c lt) (of ∙ sym is)
 
     -- each signal that a machine makes or takes is spread to it
-    gets-spread : (s : ℕ) → s < length circuit.signals → (found : Option ℕ) → IsChannelBelow (wires_of circuit tree listed) (length (wires_of circuit tree listed)) s found → Gets circuit tree listed fits scoped apart m s → has_by (wires_of circuit tree listed) (value_at owners s) m found ≡ true
+    gets-spread : (s : ℕ) → s < length circuit.signals → (found : Option ℕ) → IsChannelBelow (wires_of circuit tree listed entries) (length (wires_of circuit tree listed entries)) s found → Gets circuit tree listed entries fits scoped apart m s → has_by (wires_of circuit tree listed entries) (value_at owners s) m found ≡ true
     gets-spread s lt None inner (inl (inl own)) = eq-eqb (value_at owners s) m (sym (inner-owner owners owns s lt inner) ∙ own.1)
     gets-spread s lt None inner (inl (inr h)) =
-        let w = given-out circuit tree listed m s h in absurd (no-channel circuit tree listed fits scoped apart s w.wire inner w.among w.is)
+        let w = given-out circuit tree listed entries m s h in absurd (no-channel circuit tree listed entries fits scoped apart s w.wire inner w.among w.is)
     gets-spread s lt None inner (inr h) =
-        let w = chosen-out (wires_of circuit tree listed) (λ (v : Wire). v.consumer == m) s h in absurd (no-channel circuit tree listed fits scoped apart s w.wire inner w.among w.is)
+        let w = chosen-out (wires_of circuit tree listed entries) (λ (v : Wire). v.consumer == m) s h in absurd (no-channel circuit tree listed entries fits scoped apart s w.wire inner w.among w.is)
     gets-spread s lt (Some c) at (inl (inl own)) = absurd (own.2 c at.0 at.1)
     gets-spread s lt (Some c) at (inl (inr h)) =
-        let w = given-out circuit tree listed m s h in
-        or_left ((wire_at (wires_of circuit tree listed) c).producer == m) ((wire_at (wires_of circuit tree listed) c).consumer == m) (ap (λ (v : Wire). v.producer == m) (sym (same-wire s c w.wire at.0 at.1 w.among w.is)) ∙ w.passes)
+        let w = given-out circuit tree listed entries m s h in
+        or_left ((wire_at (wires_of circuit tree listed entries) c).producer == m) ((wire_at (wires_of circuit tree listed entries) c).consumer == m) (ap (λ (v : Wire). v.producer == m) (sym (same-wire s c w.wire at.0 at.1 w.among w.is)) ∙ w.passes)
     gets-spread s lt (Some c) at (inr h) =
-        let w = chosen-out (wires_of circuit tree listed) (λ (v : Wire). v.consumer == m) s h in
-        or_right ((wire_at (wires_of circuit tree listed) c).producer == m) ((wire_at (wires_of circuit tree listed) c).consumer == m) (ap (λ (v : Wire). v.consumer == m) (sym (same-wire s c w.wire at.0 at.1 w.among w.is)) ∙ w.passes)
+        let w = chosen-out (wires_of circuit tree listed entries) (λ (v : Wire). v.consumer == m) s h in
+        or_right ((wire_at (wires_of circuit tree listed entries) c).producer == m) ((wire_at (wires_of circuit tree listed entries) c).consumer == m) (ap (λ (v : Wire). v.consumer == m) (sym (same-wire s c w.wire at.0 at.1 w.among w.is)) ∙ w.passes)
 
-    pub signals-are : AreSignals circuit tree order listed m (signals_among (wires_of circuit tree listed) owners channels order m)
+    pub signals-are : AreSignals circuit tree order listed entries m (signals_among (wires_of circuit tree listed entries) owners channels order m)
     signals-are =
         record {
           just = λ s. (forth s, back s);
-          along = AllPairs-filter (λ a b. Precedes order a b) (has (wires_of circuit tree listed) owners channels m) order (order-pairs order);
+          along = AllPairs-filter (λ a b. Precedes order a b) (has (wires_of circuit tree listed entries) owners channels m) order (order-pairs order);
         }
       where
-        forth : (s : ℕ) → Contains (signals_among (wires_of circuit tree listed) owners channels order m) s → Gets circuit tree listed fits scoped apart m s
+        forth : (s : ℕ) → Contains (signals_among (wires_of circuit tree listed entries) owners channels order m) s → Gets circuit tree listed entries fits scoped apart m s
         forth s h =
-            let kept = filter-cases (has (wires_of circuit tree listed) owners channels m) order s h in
+            let kept = filter-cases (has (wires_of circuit tree listed entries) owners channels m) order s h in
             let lt = known-in s kept.among in
             spread-gets s lt (slice_index_or channels s None) (channel-is s lt) kept.passes
 
-        back : (s : ℕ) → Gets circuit tree listed fits scoped apart m s → Contains (signals_among (wires_of circuit tree listed) owners channels order m) s
+        back : (s : ℕ) → Gets circuit tree listed entries fits scoped apart m s → Contains (signals_among (wires_of circuit tree listed entries) owners channels order m) s
         back s gets =
-            let lt = gets-known circuit tree listed formed fits scoped apart m s gets in
-            Contains-filter (has (wires_of circuit tree listed) owners channels m) order s (ordered.every s lt) (gets-spread s lt (slice_index_or channels s None) (channel-is s lt) gets)
+            let lt = gets-known circuit tree listed entries formed fits scoped apart m s gets in
+            Contains-filter (has (wires_of circuit tree listed entries) owners channels m) order s (ordered.every s lt) (gets-spread s lt (slice_index_or channels s None) (channel-is s lt) gets)
 
 -- ---- memories
 
@@ -147,8 +148,8 @@ module _ (tree : InstanceTree) (listed : Listed) (numbered : (place : ℕ) → p
 
 -- ---- what a machine has
 
-pub shared : (circuit : FlatCircuit) (tree : InstanceTree) (order : List ℕ) (listed : Listed) → IsWellFormed circuit → IsTree circuit tree → IsScoped circuit tree → IsOrder circuit order → AreApart tree listed → (m : ℕ) (ins outs globals memories : List ℕ) → ins ≡ channels_to (wires_of circuit tree listed) m → outs ≡ channels_from (wires_of circuit tree listed) m → AreSignals circuit tree order listed m globals → AreMemories tree listed m memories → IsShareOf (record { circuit = circuit; tree = tree; order = order }) listed (wires_of circuit tree listed) m ins outs globals memories
-shared circuit tree order listed formed fits scoped ordered apart m ins outs globals memories takes gives signals banks =
+pub shared : (circuit : FlatCircuit) (tree : InstanceTree) (order : List ℕ) (listed : Listed) (entries : List BridgeEntry) → IsWellFormed circuit → IsTree circuit tree → IsScoped circuit tree → IsOrder circuit order → AreApart tree listed → (m : ℕ) (ins outs globals memories : List ℕ) → ins ≡ channels_to (wires_of circuit tree listed entries) m → outs ≡ channels_from (wires_of circuit tree listed entries) m → AreSignals circuit tree order listed entries m globals → AreMemories tree listed m memories → IsShareOf (record { circuit = circuit; tree = tree; order = order }) listed (wires_of circuit tree listed entries) m ins outs globals memories
+shared circuit tree order listed entries formed fits scoped ordered apart m ins outs globals memories takes gives signals banks =
     record {
       takes = takes;
       gives = gives;
@@ -157,7 +158,7 @@ shared circuit tree order listed formed fits scoped ordered apart m ins outs glo
       banks = banks.just;
       ascend = banks.ascend;
       choice = λ low.
-          subst (λ l. IsChoice circuit globals (signals_of (wires_of circuit tree listed) l) (givens_of (wires_of circuit tree listed) outs) memories) (sym takes)
-          (subst (λ l. IsChoice circuit globals (signals_of (wires_of circuit tree listed) (channels_to (wires_of circuit tree listed) m)) (givens_of (wires_of circuit tree listed) l) memories) (sym gives)
-          (choice circuit tree listed formed fits scoped apart m globals memories low signals.just (along-once order globals ordered.once signals.along) banks.just (λ i j d less lt same. absurd (omega (arith, banks.ascend i j d less lt, same)))));
+          subst (λ l. IsChoice circuit globals (signals_of (wires_of circuit tree listed entries) l) (givens_of (wires_of circuit tree listed entries) outs) memories) (sym takes)
+          (subst (λ l. IsChoice circuit globals (signals_of (wires_of circuit tree listed entries) (channels_to (wires_of circuit tree listed entries) m)) (givens_of (wires_of circuit tree listed entries) l) memories) (sym gives)
+          (choice circuit tree listed entries formed fits scoped apart m globals memories low signals.just (along-once order globals ordered.once signals.along) banks.just (λ i j d less lt same. absurd (omega (arith, banks.ascend i j d less lt, same)))));
     }

@@ -1,5 +1,6 @@
 -- Definitions that no promise of the program reaches: for single functions, and for proofs.
 pub mod Beginning
+pub mod Ends
 pub mod CanSplit
 pub mod IsShare
 pub mod Share

@@ -5,42 +5,42 @@ ghost use Rattle.gg_flat_tree.specs.Tree.{IsTree, instance_at, parent_place};
 ghost use Rattle.gg_cut_plan.specs.Listed.{owner_of, owner_of_instance};
 ghost use Rattle.gg_flat.specs.Circuit.{readers_at};
 ghost use Rattle.gg_flat_tree.specs.Scoped.{writers_at};
-ghost use Rattle.gg_cut_plan.specs.Machines.{first_unit, first_memory, source_after, tray_after};
-ghost use Rattle.gg_cut_plan.specs.inside.Machines.{numbering_of};
-ghost use Rattle.gg_cut_plan.specs.Channels.{wire, numbered, flattened, port_wire, port_wires, reader_wires, writer_wires, field_wires, source_wires, wires_of};
-ghost use Rattle.gg_cut_split.specs.inside.Spread.{held_wires};
+ghost use Rattle.gg_cut_plan.specs.Machines.{first_unit, first_memory};
+ghost use Rattle.gg_cut_split.specs.inside.Beginning.{IsWhole};
+ghost use Rattle.gg_cut_plan.specs.Channels.{wire, numbered, flattened, port_wire, port_wires, reader_wires, writer_wires, field_wires, wires_of};
+ghost use Rattle.gg_cut_split.specs.inside.Spread.{given_wires, held_wires};
 
+use crate::beginning::Whole;
 use gg_cut_plan::{Listed, Numbering, Wire};
 use gg_flat::{Piece, Reader, Writer};
 use gg_flat_tree::{InstancePort, Tree};
 use std::alloc::{AllocError, Global};
 
-// The channels of a cut, in their order. `owners` has the machine of each instance, and `holders` the machine of each top output.
+// The channels of a cut, in their order. `owners` has the machine of each instance, and `holders` the machine of each out-signal of the top.
 //
 // # Errors
 //
 // Returns `AllocError` if an allocation fails.
 pub(crate) fn channels(
     alloc: Global,
-    piece: &Piece,
-    tree: &Tree,
-    numbering: &Numbering,
-    listed: &Listed,
+    whole: &Whole,
     owners: &[u32],
     holders: &[u32],
 ) -> Result<Vec<Wire>, AllocError>
-    requires fitting { IsTree piece.now tree.now }
-    requires units { All (λ unit. unit < length tree.now.instances) listed.now.units }
-    requires memories { All (λ place. place < length tree.now.memories) listed.now.memories }
-    requires numbering { numbering.now ≡ numbering_of piece.now listed.now }
-    requires known { All (λ s. s < length holders.now) piece.now.outs }
-    requires holders { All (λ s. value_at holders.now s ≡ owner_of piece.now tree.now listed.now s) piece.now.outs }
-    requires count { length owners.now ≡ length tree.now.instances }
-    requires owners { (k : ℕ) → k < length tree.now.instances → value_at owners.now k ≡ owner_of_instance tree.now listed.now.units k }
-    ensures { IfOk result (λ wires. wires.items ≡ wires_of piece.now tree.now listed.now) }
+    requires whole { IsWhole whole.now }
+    requires known { All (λ s. s < length holders.now) whole.now.piece.now.outs }
+    requires holders { All (λ s. value_at holders.now s ≡ owner_of whole.now.piece.now whole.now.tree.now whole.now.listed.now s) whole.now.piece.now.outs }
+    requires count { length owners.now ≡ length whole.now.tree.now.instances }
+    requires owners { (k : ℕ) → k < length whole.now.tree.now.instances → value_at owners.now k ≡ owner_of_instance whole.now.tree.now whole.now.listed.now.units k }
+    ensures { IfOk result (λ wires. wires.items ≡ wires_of whole.now.piece.now whole.now.tree.now whole.now.listed.now whole.now.entries.now) }
 {
+    let piece = whole.piece;
+    let tree = whole.tree;
+    let listed = whole.listed;
+    let ends = whole.ends;
+    let numbering = &ends.numbering;
     let mut wires = Vec::new(alloc);
-    push_sources(&mut wires, numbering, piece.ins())?;
+    push_inputs(&mut wires, &ends.givers, piece.ins())?;
     push_units(
         &mut wires,
         piece,
@@ -50,35 +50,35 @@ pub(crate) fn channels(
         owners,
     )?;
     push_memories(&mut wires, piece, tree, numbering, listed, owners)?;
-    push_trays(&mut wires, numbering, piece.outs(), holders)?;
+    push_outputs(&mut wires, &ends.keepers, piece.outs(), holders)?;
     Ok(wires)
 }
 
-// Adds the channels of the top's inputs.
-fn push_sources(wires: &mut Vec<Wire>, numbering: &Numbering, ins: &[u32]) -> Result<(), AllocError>
-    requires { numbering.now.ins ≡ length ins.now }
-    ensures { OnOk result (wires.new.items ≡ wires.old.items ++ numbered source_wires (source_after numbering.now.units numbering.now.memories) ins.now) }
+// Adds the channels of the top's inputs, from the machines that give them.
+fn push_inputs(wires: &mut Vec<Wire>, givers: &[u32], ins: &[u32]) -> Result<(), AllocError>
+    requires { length givers.now ≡ length ins.now }
+    ensures { OnOk result (wires.new.items ≡ wires.old.items ++ numbered (given_wires givers.now) 0 ins.now) }
 {
     for place in 0..ins.len() {
-        wires.push(to(ins[place], numbering.source(place), 0))?;
+        wires.push(to(ins[place], givers[place], 0))?;
     }
     Ok(())
 }
 
-// Adds the channels of the top's outputs, from the machines that have them.
-fn push_trays(
+// Adds the channels of the top's out-signals, from the machines that have them to the machines that take them.
+fn push_outputs(
     wires: &mut Vec<Wire>,
-    numbering: &Numbering,
+    keepers: &[u32],
     outs: &[u32],
     holders: &[u32],
 ) -> Result<(), AllocError>
-    requires count { numbering.now.outs ≡ length outs.now }
+    requires count { length keepers.now ≡ length outs.now }
     requires known { All (λ s. s < length holders.now) outs.now }
-    ensures { OnOk result (wires.new.items ≡ wires.old.items ++ numbered (held_wires holders.now) (tray_after numbering.now.units numbering.now.memories numbering.now.ins) outs.now) }
+    ensures { OnOk result (wires.new.items ≡ wires.old.items ++ numbered (held_wires holders.now keepers.now) 0 outs.now) }
 {
     for place in 0..outs.len() {
         let signal = outs[place];
-        wires.push(to(signal, holders[signal as usize], numbering.tray(place)))?;
+        wires.push(to(signal, holders[signal as usize], keepers[place]))?;
     }
     Ok(())
 }
@@ -158,7 +158,8 @@ fn push_memories(
 ) -> Result<(), AllocError>
     requires fitting { IsTree piece.now tree.now }
     requires known { All (λ place. place < length tree.now.memories) listed.now.memories }
-    requires numbering { numbering.now ≡ numbering_of piece.now listed.now }
+    requires units { numbering.now.units ≡ length listed.now.units }
+    requires memories { numbering.now.memories ≡ length listed.now.memories }
     requires count { length owners.now ≡ length tree.now.instances }
     requires owners { (k : ℕ) → k < length tree.now.instances → value_at owners.now k ≡ owner_of_instance tree.now listed.now.units k }
     ensures { OnOk result (wires.new.items ≡ wires.old.items ++ numbered (field_wires piece.now tree.now listed.now.units) (first_memory listed.now) listed.now.memories) }

@@ -4,9 +4,10 @@
 //! signals of the channels that it gives. It takes the signals of the channels that it takes (`Makes` and `Takes` in
 //! gg_cut_plan's `specs/Plan`), all before channels are routed. If what is listed is apart, the crate promises:
 //!
-//! - `split` gives the channels in their order. For each machine it gives the channels that the machine takes and
-//!   gives; exactly the signals that it makes or takes, along the order of evaluation; and exactly the memories that
-//!   belong to it (`IsShareOf` in `specs/inside/Share`);
+//! - `ends_of` gives the numbers of the machines, and the machine of each port of the top, with bridges by any entries;
+//! - `split` gives the channels in their order. For each machine it gives exactly the signals that the machine makes or
+//!   takes, along the order of evaluation, and exactly the memories that belong to it (`IsShareOf` in
+//!   `specs/inside/Share`);
 //! - what the hub, a unit or a memory has makes a part of the circuit (`IsChoice` in gg_part): for each signal that
 //!   it makes, it makes or takes all that the signal's driver, register or memory names.
 //!
@@ -23,9 +24,12 @@ mod again;
 mod beginning;
 mod channels;
 mod closed;
+mod ends;
+mod lists;
 mod owned;
 mod parting;
 mod pile;
+mod ports;
 mod share;
 mod spread;
 mod tables;
@@ -34,8 +38,11 @@ pub use again::units_stand_again;
 pub use closed::{
     channels_once, listed_apart, machine_closed, machine_makes_part, owner_at_end, owner_by_path,
 };
+pub use ends::{Ends, ends_of};
+pub use lists::{filled, set_named};
 pub use owned::{Owned, owned_of};
 pub use parting::split;
 pub use pile::Pile;
+pub use ports::put_ports;
 pub use share::{Share, Split};
 pub use spread::{Sides, sides_of};

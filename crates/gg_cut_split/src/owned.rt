@@ -7,12 +7,15 @@ ghost use Rattle.gg_cut_plan.specs.Channels.{wires_of};
 ghost use Rattle.gg_cut_plan.specs.Plan.{IsInner};
 ghost use Rattle.gg_cut_split.specs.inside.Apart.{AreApart};
 ghost use Rattle.gg_cut_split.specs.inside.Beginning.{IsWhole};
+ghost use Rattle.gg_cut_split.specs.inside.Ends.{AreEndsOf};
 
 use crate::beginning::{Beginning, Whole, begin};
+use crate::ends::Ends;
 use crate::tables::memory_owners;
 use gg_bits::{Ids, Items};
 use gg_cut_plan::{Listed, Wire};
 use gg_order::Design;
+use gg_partfile::BridgeEntry;
 use std::alloc::{AllocError, Global};
 
 /// The channels of a cut, and the owners of its signals and memories.
@@ -38,15 +41,22 @@ impl Drop for Owned {
     }
 }
 
-/// The channels of a cut, and the owners of its signals and memories. What is listed is apart.
+/// The channels of a cut with bridges by these entries, and the owners of its signals and memories. What is listed is apart.
 ///
 /// # Errors
 ///
-/// Returns `AllocError` if an allocation fails, or if there are 4,294,967,296 machines or more.
-pub fn owned_of(alloc: Global, design: &Design, listed: &Listed) -> Result<Owned, AllocError>
+/// Returns `AllocError` if an allocation fails.
+pub fn owned_of(
+    alloc: Global,
+    design: &Design,
+    listed: &Listed,
+    entries: &[BridgeEntry],
+    ends: &Ends,
+) -> Result<Owned, AllocError>
     requires keeps { KeepsToTree design.now.circuit design.now.tree }
     requires apart { AreApart design.now.tree listed.now }
-    ensures wires { IfOk result (λ found. found.wires ≡ wires_of design.now.circuit design.now.tree listed.now) }
+    requires ends { AreEndsOf design.now.circuit design.now.tree listed.now entries.now ends.now }
+    ensures wires { IfOk result (λ found. found.wires ≡ wires_of design.now.circuit design.now.tree listed.now entries.now) }
     ensures count { IfOk result (λ found. length found.signals ≡ length design.now.circuit.signals) }
     ensures signals { IfOk result (λ found. (s : ℕ) → s < length design.now.circuit.signals → IsInner found.wires s → value_at found.signals s ≡ owner_of design.now.circuit design.now.tree listed.now s) }
     ensures memories { IfOk result (λ found. (place : ℕ) → place < length design.now.tree.memories → value_at found.memories place ≡ memory_owner design.now.tree listed.now place) }
@@ -58,6 +68,8 @@ pub fn owned_of(alloc: Global, design: &Design, listed: &Listed) -> Result<Owned
         tree: design.tree(),
         order: design.order(),
         listed,
+        entries,
+        ends,
     };
     let found = owned_in(alloc, &whole)?;
     Ok(found)
@@ -66,7 +78,7 @@ pub fn owned_of(alloc: Global, design: &Design, listed: &Listed) -> Result<Owned
 // `owned_of` for a circuit with its tree and an order.
 fn owned_in(alloc: Global, whole: &Whole) -> Result<Owned, AllocError>
     requires { IsWhole whole.now }
-    ensures wires { IfOk result (λ found. found.wires ≡ wires_of whole.now.piece.now whole.now.tree.now whole.now.listed.now) }
+    ensures wires { IfOk result (λ found. found.wires ≡ wires_of whole.now.piece.now whole.now.tree.now whole.now.listed.now whole.now.entries.now) }
     ensures count { IfOk result (λ found. length found.signals ≡ length whole.now.piece.now.signals) }
     ensures signals { IfOk result (λ found. (s : ℕ) → s < length whole.now.piece.now.signals → IsInner found.wires s
         → value_at found.signals s ≡ owner_of whole.now.piece.now whole.now.tree.now whole.now.listed.now s) }
@@ -76,12 +88,11 @@ fn owned_in(alloc: Global, whole: &Whole) -> Result<Owned, AllocError>
     let memories = memory_owners(
         alloc,
         whole.tree,
-        &beginning.numbering,
+        &whole.ends.numbering,
         whole.listed,
         &beginning.owners,
     )?;
     let Beginning {
-        numbering: _,
         owners,
         holders,
         wires,

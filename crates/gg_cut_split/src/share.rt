@@ -2,12 +2,8 @@
 use gg_bits::{Ids, Items};
 use gg_cut_plan::Wire;
 
-/// What a machine has. All numbers are numbers of the whole circuit.
+/// What a machine has besides its channels. All numbers are numbers of the whole circuit.
 pub struct Share {
-    /// The channels that it takes, ascending.
-    pub ins: Ids,
-    /// The channels that it gives, ascending.
-    pub outs: Ids,
     /// The signals of the circuit that it makes or takes, in the order of evaluation.
     pub globals: Ids,
     /// The memories of the circuit that belong to it, ascending.
@@ -16,14 +12,7 @@ pub struct Share {
 
 impl Drop for Share {
     fn drop(self) {
-        let Self {
-            ins,
-            outs,
-            globals,
-            memories,
-        } = self;
-        drop(ins);
-        drop(outs);
+        let Self { globals, memories } = self;
         drop(globals);
         drop(memories);
     }

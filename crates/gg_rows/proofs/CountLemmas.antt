@@ -10,7 +10,7 @@ use Rattle.gg_cut_plan.specs.Direct.{Hub, plan_hub}
 use Rattle.gg_cut_plan.specs.Listed.{listed_of}
 use Rattle.gg_cut_plan.specs.Machines.{first_source}
 use Rattle.gg_cut_plan.specs.Plan.{IsBody, IsPlan}
-use Rattle.gg_cut_plan.specs.Seated.{first_bridge, first_kept_tray, open_ins, plan_bridges}
+use Rattle.gg_cut_plan.specs.Ports.{first_bridge, first_kept_tray, open_ins, plan_bridges}
 use Rattle.gg_cut_plan.specs.declared.listed.Listed.{Listed}
 use Rattle.gg_cut_plan.specs.declared.plan.Body.{Body}
 use Rattle.gg_cut_plan.specs.declared.plan.Body.TheVariants.{Cut, Memory, Source, Tray, Bridge}

@@ -5,7 +5,7 @@ use Rattle.std.proofs.lemmas.Bool.{cases_lt}
 use Rattle.gg_flat.specs.Run.{Start}
 use Rattle.gg_flat.specs.Streams.{Flow}
 use Rattle.gg_build.specs.Build.{IsOpeningFrom, IsToRunFrom, run_token}
-use Rattle.gg_cut_plan.specs.Seated.{first_kept_tray, plan_bridges}
+use Rattle.gg_cut_plan.specs.Ports.{first_kept_tray, plan_bridges}
 use Rattle.gg_cut_plan.specs.declared.plan.Plan.{Plan}
 use Rattle.gg_net.specs.Network.{AllStandAt, Frame, Network, frame_of}
 use Rattle.gg_net.specs.Kept.{Kept}
@@ -18,7 +18,7 @@ use Rattle.gg_build.specs.StandsAt.{StandsAt}
 use Rattle.gg_rows.specs.inside.RunTaken.{TakesTheRow, TakesTheRun, TakesTheWindow}
 use Rattle.gg_rows.specs.inside.Taken.{IsLastOf, IsRanOut, Ran, StopsIn, TakesAt, TakesSome, Took, TookTo, WentBy}
 use Rattle.gg_rows.specs.inside.Taken.Took.{Wants}
-use Rattle.gg_rows.specs.inside.Window.{IsWindowOf, window_end}
+use Rattle.gg_rows.specs.inside.Window.{window_end}
 use Rattle.gg_rows.proofs.OpeningLemmas.{begins-so}
 use Rattle.gg_rows.proofs.OutputLemmas.{net-stays, opening-is-net}
 use Rattle.gg_rows.proofs.TakenLemmas.{count-within, ended-within, row-there, took-all, took-fails, took-last, took-next, went-more, went-none, went-on, went-on-so, went-then}

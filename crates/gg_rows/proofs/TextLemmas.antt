@@ -10,7 +10,7 @@ use Rattle.gg_flat.specs.Streams.{Flow}
 use Rattle.gg_flat.specs.declared.ports.Port.{Port}
 use Rattle.gg_build.specs.Build.{IsOpeningFrom, IsToRunFrom, run_token}
 use Rattle.gg_build.specs.inside.Build.{FromZeros}
-use Rattle.gg_cut_plan.specs.Seated.{first_kept_tray, plan_bridges}
+use Rattle.gg_cut_plan.specs.Ports.{first_kept_tray, plan_bridges}
 use Rattle.gg_cut_plan.specs.declared.plan.Plan.{Plan}
 use Rattle.gg_cut_reference.specs.Follows.{plan_token}
 use Rattle.gg_cut_reference.specs.whole.Whole.{plan_circuit}

@@ -7,9 +7,9 @@ use Rattle.gg_flat.specs.Run.{Start, row_at}
 use Rattle.gg_order.specs.Design.{Ordered}
 use Rattle.gg_partfile.specs.declared.request.Request.{Request}
 use Rattle.gg_cut_plan.specs.Bridges.{Models}
-use Rattle.gg_cut_plan.specs.Direct.{plan_hub, plan_routes}
+use Rattle.gg_cut_plan.specs.Direct.{plan_hub, plan_wires}
 use Rattle.gg_cut_plan.specs.Plan.{wire_at, channels_to}
-use Rattle.gg_cut_plan.specs.Seated.{first_bridge, first_kept_tray, open_outs, output_count, plan_bridges, plan_wires}
+use Rattle.gg_cut_plan.specs.Ports.{first_bridge, first_kept_tray, open_outs, output_count, plan_bridges}
 use Rattle.gg_cut_plan.specs.Solves.{columns_of, streams}
 use Rattle.gg_cut_plan.specs.declared.plan.Plan.{Plan}
 use Rattle.gg_cut_reference.proofs.FittingLemmas.OpenLemmas.{outs-count}
@@ -21,7 +21,6 @@ use Rattle.gg_cut_reference.proofs.WholeLemmas.PortLemmas.{plan-outs}
 use Rattle.gg_build.specs.plan.Built.{IsGiven}
 use Rattle.gg_build.specs.inside.Given.{given_of}
 use Rattle.gg_build.proofs.PlanLemmas.ListedLemmas.{taken-is}
-use Rattle.gg_build.proofs.PlanLemmas.SeatLemmas.{seated-many}
 use Rattle.gg_build.proofs.PlanLemmas.SolveLemmas.{plan-output-value, plan-tray}
 
 module _ (design : Ordered) (request : Request) (models : Models) (default : ℕ) (plan : Plan) (columns : List (List ℕ)) (n : ℕ) (start : Start) (rows : List (List ℕ)) (given : IsGiven design request models default plan columns n start rows) where
@@ -60,7 +59,7 @@ module _ (design : Ordered) (request : Request) (models : Models) (default : ℕ
       let into : Contains (channels_to all m) c = subst (λ (l : List ℕ). Contains l c) (sym tray.into) (0, omega arith, refl) in (
         c,
         record {
-          known = omega (arith, tray.known, seated-many (plan_bridges design.circuit design.tree request) (plan_routes design.circuit design.tree request), given.planned.channel_total);
+          known = omega (arith, tray.known, given.planned.channel_total);
           consumer = (taken-is all m c into).consumer;
           value = λ t inside. plan-output-value (given_of given) k c t low tray.known tray.signal inside;
         },

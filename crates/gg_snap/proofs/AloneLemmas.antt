@@ -14,7 +14,7 @@ use Rattle.gg_cut_plan.specs.Clocks.{ratios_of}
 use Rattle.gg_cut_plan.specs.Fault.{first_fault}
 use Rattle.gg_cut_plan.specs.Held.{AreHeldOnce}
 use Rattle.gg_cut_plan.specs.Plan.{IsPlan}
-use Rattle.gg_cut_plan.specs.Seated.{first_bridge, plan_bridges}
+use Rattle.gg_cut_plan.specs.Ports.{first_bridge, plan_bridges}
 use Rattle.gg_cut_plan.specs.Solves.{AreRows}
 use Rattle.gg_cut_reference.specs.Made.{plan_reference}
 use Rattle.gg_cut_reference.specs.whole.Whole.{states_with, with_bridges}

@@ -22,13 +22,14 @@ use Rattle.gg_order.specs.Design.{IsDesign, Ordered}
 use Rattle.gg_partfile.specs.declared.request.Request.{Request}
 use Rattle.gg_part.specs.KeepsToTree.{KeepsToTree}
 use Rattle.gg_cut_reference.specs.Made.{AllHeld}
+use Rattle.gg_cut_plan.specs.Ports.{ports_of, Bridges}
 use Rattle.gg_cut_plan.specs.declared.listed.Listed.{Listed}
 use Rattle.gg_cut_plan.specs.declared.plan.Body.{Body}
 use Rattle.gg_cut_plan.specs.declared.plan.Body.TheVariants.{Cut, Memory, Source, Tray, Bridge}
 use Rattle.gg_cut_plan.specs.declared.plan.Plan.{Plan}
 use Rattle.gg_cut_plan.specs.declared.wires.Wire.{Wire}
 use Rattle.gg_cut_plan.specs.Bridges.{Models}
-use Rattle.gg_cut_plan.specs.Channels.{numbered, source_wires}
+use Rattle.gg_cut_plan.specs.Channels.{numbered, input_wires}
 use Rattle.gg_cut_plan.specs.Direct.{Hub, bare_of, copied, direct_of, if_plain, if_wide, is_direct, is_own, is_taken, left_by, may_be_direct, origin, origin_within, plan_hub, routes}
 use Rattle.gg_cut_plan.specs.Fault.{first_fault}
 use Rattle.gg_cut_plan.specs.Listed.{listed_of, owner_of}
@@ -69,7 +70,7 @@ module _ (hub : Hub) (base : IsBase hub) (s : ℕ) (plain : copied hub.circuit s
   no-origin free zero = refl
   no-origin free (suc n) = by (is_taken hub s) (is_own hub s) free
     where
-      by : (taken own : Bool) → taken ≡ false → (if taken then (if hub.piped s || hub.driven s then None else Some s) else (if own then option_and_then (origin_within hub n) (copied hub.circuit s) else None)) ≡ None
+      by : (taken own : Bool) → taken ≡ false → (if taken then (if hub.piped s then None else Some s) else (if own then option_and_then (origin_within hub n) (copied hub.circuit s) else None)) ≡ None
       by true own e = cc
       by false true e = ap (λ (o : Option ℕ). option_and_then (origin_within hub n) o) plain
       by false false e = refl
@@ -113,9 +114,9 @@ each-at P (x ∷ xs) each w (suc place, lt, e) = each-at P xs each.1 w (place, o
 abbrev IsTop : FlatCircuit → ℕ → Type 0
 IsTop circuit s = (place : ℕ) × (driver_at circuit s ≡ Input place)
 
-sources-top : (circuit : FlatCircuit) (number : ℕ) (ins : List ℕ) → All (IsTop circuit) ins → Each (λ w. IsTop circuit w.signal) (numbered source_wires number ins)
-sources-top circuit number [] all = tt
-sources-top circuit number (s ∷ ins) all = (All-head (IsTop circuit) s ins all, sources-top circuit (suc number) ins (All-tail (IsTop circuit) s ins all))
+inputs-top : (circuit : FlatCircuit) (b : Bridges) (number : ℕ) (ins : List ℕ) → All (IsTop circuit) ins → Each (λ w. IsTop circuit w.signal) (numbered (input_wires b) number ins)
+inputs-top circuit b number [] all = tt
+inputs-top circuit b number (s ∷ ins) all = (All-head (IsTop circuit) s ins all, inputs-top circuit b (suc number) ins (All-tail (IsTop circuit) s ins all))
 
 record IsMaker (hub : Hub) (base : IsBase hub) (end s : ℕ) : Type 0 where
   machine : ℕ
@@ -177,11 +178,11 @@ module _ (design : Ordered) (request : Request) (models : Models) (default : ℕ
   tops = λ k d lt. (k, ap (driver_at design.circuit) (get_or_default design.circuit.ins k d 0 lt) ∙ (is.formed.ins k lt).1)
 
   producer-below : (w : Wire) → Contains (plan_hub design.circuit design.tree request).base w → ¬ IsTop design.circuit w.signal → w.producer < first_source (listed_of design.tree request)
-  producer-below w h inner = by (Contains-append_cases (numbered source_wires (first_source listed) design.circuit.ins) (rest_wires design.circuit design.tree listed) w h)
+  producer-below w h inner = by (Contains-append_cases (numbered (input_wires (ports_of design.circuit design.tree listed [])) 0 design.circuit.ins) (rest_wires design.circuit design.tree listed []) w h)
     where
-      by : Contains (numbered source_wires (first_source (listed_of design.tree request)) design.circuit.ins) w ⊎ Contains (rest_wires design.circuit design.tree (listed_of design.tree request)) w → w.producer < first_source (listed_of design.tree request)
-      by (inl a) = absurd (inner (each-at (λ w. IsTop design.circuit w.signal) (numbered source_wires (first_source listed) design.circuit.ins) (sources-top design.circuit (first_source listed) design.circuit.ins tops) w a))
-      by (inr a) = each-at (λ w. w.producer < first_source (listed_of design.tree request)) (rest_wires design.circuit design.tree listed) (rest-below design.circuit design.tree listed) w a
+      by : Contains (numbered (input_wires (ports_of design.circuit design.tree (listed_of design.tree request) [])) 0 design.circuit.ins) w ⊎ Contains (rest_wires design.circuit design.tree (listed_of design.tree request) []) w → w.producer < first_source (listed_of design.tree request)
+      by (inl a) = absurd (inner (each-at (λ w. IsTop design.circuit w.signal) (numbered (input_wires (ports_of design.circuit design.tree listed [])) 0 design.circuit.ins) (inputs-top design.circuit (ports_of design.circuit design.tree listed []) 0 design.circuit.ins tops) w a))
+      by (inr a) = each-at (λ w. w.producer < first_source (listed_of design.tree request)) (rest_wires design.circuit design.tree listed []) (rest-below design.circuit design.tree listed []) w a
 
   not-top : (s r : ℕ) → driver_at design.circuit s ≡ Held r → ¬ IsTop design.circuit s
   not-top s r e top = by (sym top.1 ∙ e)

@@ -16,13 +16,12 @@ use Rattle.gg_cut_plan.specs.declared.plan.Channel.{Channel}
 use Rattle.gg_cut_plan.specs.declared.plan.Plan.{Plan}
 use Rattle.gg_cut_plan.specs.declared.wires.Wire.{Wire}
 use Rattle.gg_cut_plan.specs.Bridges.{Models}
-use Rattle.gg_cut_plan.specs.Direct.{Hub, is_piped, plan_hub, routes}
+use Rattle.gg_cut_plan.specs.Direct.{Hub, is_piped, plan_hub, routes, plan_wires}
 use Rattle.gg_cut_plan.specs.Fault.{first_fault}
 use Rattle.gg_cut_plan.specs.Listed.{first_place}
 use Rattle.gg_cut_plan.specs.Plan.{IsPlan, wire_at}
-use Rattle.gg_cut_plan.specs.Seated.{Bridges, plan_bridges, plan_wires, seated_wire}
+use Rattle.gg_cut_plan.specs.Ports.{Bridges, plan_bridges}
 use Rattle.gg_cut_plan.proofs.OriginLemmas.{any-finds, finds-any}
-use Rattle.gg_cut_reference.proofs.FittingLemmas.LowLemmas.{wire-signal}
 use Rattle.gg_cut_split.proofs.ClosedLemmas.PlaceLemmas.{same-bool}
 use Rattle.gg_cut_routes.proofs.ChoiceLemmas.{any-wire}
 use Rattle.gg_cut_routes.proofs.RouteLemmas.{IsBase, routes-known, routes-once}
@@ -41,23 +40,14 @@ module _ (design : Ordered) (request : Request) (models : Models) (default : ℕ
   base = routed-base design request is keeps none
 
   -- the channels have the signals of the cut's
-  abbrev seats : Bridges
-  seats = plan_bridges design.circuit design.tree request
-
-  many : length (plan_wires design.circuit design.tree request) ≡ length (routes (plan_hub design.circuit design.tree request))
-  many = length-map (routes hub) (seated_wire seats)
-
-  own-signal : (c : ℕ) → (wire_at (plan_wires design.circuit design.tree request) c).signal ≡ (wire_at (routes (plan_hub design.circuit design.tree request)) c).signal
-  own-signal c = wire-signal seats (routes hub) c
-
   there : (c : ℕ) → c < length plan.channels → c < length (routes (plan_hub design.circuit design.tree request))
-  there c lt = omega (arith, lt, planned.channel_total, many)
+  there c lt = omega (arith, lt, planned.channel_total)
 
   pub signal-at : (c : ℕ) (any : Channel) → c < length plan.channels → (get_or plan.channels c any).signal ≡ (wire_at (routes (plan_hub design.circuit design.tree request)) c).signal
-  signal-at c any lt = (planned.channel c any lt).signal ∙ own-signal c
+  signal-at c any lt = (planned.channel c any lt).signal
 
   pipe-at : (c : ℕ) (any : Channel) → c < length plan.channels → (get_or plan.channels c any).pipe ≡ is_piped design.circuit request (wire_at (routes (plan_hub design.circuit design.tree request)) c).signal
-  pipe-at c any lt = (planned.channel c any lt).pipe ∙ ap (is_piped design.circuit request) (own-signal c)
+  pipe-at c any lt = (planned.channel c any lt).pipe
 
   pub known-signals : All (λ (channel : Channel). channel.signal < length design.circuit.signals) plan.channels
   known-signals = λ c any lt. subst (λ s. s < length design.circuit.signals) (sym (signal-at c any lt)) (routes-known hub base c any-wire (there c lt))
@@ -92,7 +82,7 @@ module _ (design : Ordered) (request : Request) (models : Models) (default : ℕ
           let at = found.among in
           let c = at.0 in
           let low = at.1 in
-          let lt : c < length plan.channels = omega (arith, low, planned.channel_total, many) in
+          let lt : c < length plan.channels = omega (arith, low, planned.channel_total) in
           let any = some-item plan.channels c lt in
           let wire : (wire_at (routes hub) c).signal ≡ s = ap (λ (r : Wire). r.signal) (get_or_default (routes hub) c any-wire found.item low ∙ at.2) ∙ eqb-true found.item.signal s found.passes in
           list_any_at (λ (x : Channel). x.pipe && (x.signal == s)) plan.channels c any lt

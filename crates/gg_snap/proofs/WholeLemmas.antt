@@ -7,7 +7,7 @@ use Rattle.gg_flat_tree.specs.Tree.{InstanceTree}
 use Rattle.gg_part.specs.KeepsToTree.{KeepsToTree}
 use Rattle.gg_order.specs.Design.{IsDesign, Ordered}
 use Rattle.gg_partfile.specs.declared.request.Request.{Request}
-use Rattle.gg_cut_plan.specs.Direct.{is_driven, is_piped, plan_hub}
+use Rattle.gg_cut_plan.specs.Direct.{is_piped, plan_hub}
 use Rattle.gg_cut_plan.specs.Fault.{first_fault}
 use Rattle.gg_cut_plan.specs.Listed.{listed_of}
 use Rattle.gg_cut_split.proofs.ClosedLemmas.FaultlessLemmas.{faultless-apart}
@@ -49,5 +49,5 @@ pub plan-whole : (design : Ordered) (request : Request) → IsDesign design → 
 plan-whole design request is keeps held none =
     let hub = plan_hub design.circuit design.tree request in
     whole design.circuit (plan_reference design request) _ _
-    (made design.circuit design.tree (listed_of design.tree request) is.formed keeps.fitting keeps.scoped (faultless-apart design request none keeps.fitting) (is_piped design.circuit request) (is_driven design.circuit request) request.direct (routed-base design request is keeps none) (holder_of hub) (keeper_of design.tree (listed_of design.tree request)))
+    (made design.circuit design.tree (listed_of design.tree request) is.formed keeps.fitting keeps.scoped (faultless-apart design request none keeps.fitting) (is_piped design.circuit request) request.bridges request.direct (routed-base design request is keeps none) (holder_of hub) (keeper_of design.tree (listed_of design.tree request)))
     design.tree keeps held

@@ -27,7 +27,7 @@ use Rattle.gg_cut_plan.specs.Machines.{first_memory, first_source, is_memory}
 use Rattle.gg_cut_plan.specs.Fault.{first_fault}
 use Rattle.gg_cut_plan.specs.Listed.{is_among, listed_of}
 use Rattle.gg_cut_plan.specs.Plan.{machine_names}
-use Rattle.gg_cut_plan.specs.Seated.{machine_end, open_ins, open_outs, output_count, plan_bridges}
+use Rattle.gg_cut_plan.specs.Ports.{machine_end, open_ins, open_outs, output_count, plan_bridges}
 use Rattle.gg_cut_plan.specs.declared.listed.Listed.{Listed}
 use Rattle.gg_cut_reference.specs.inside.Fitting.{AreFitting}
 use Rattle.gg_cut_reference.proofs.FittingLemmas.NameLemmas.{names-count}

@@ -11,15 +11,14 @@ use Rattle.gg_part.specs.KeepsToTree.{KeepsToTree}
 use Rattle.gg_order.specs.Design.{IsDesign, Ordered}
 use Rattle.gg_partfile.specs.declared.request.Request.{Request}
 use Rattle.gg_cut_plan.specs.Channels.{wire}
-use Rattle.gg_cut_plan.specs.Direct.{plan_hub, plan_routes}
+use Rattle.gg_cut_plan.specs.Direct.{plan_hub, plan_wires}
 use Rattle.gg_cut_plan.specs.Fault.{first_fault}
 use Rattle.gg_cut_plan.specs.Listed.{lies, listed_of}
 use Rattle.gg_cut_plan.specs.Plan.{wire_at}
-use Rattle.gg_cut_plan.specs.Seated.{plan_bridges, plan_wires, seated_wire}
+use Rattle.gg_cut_plan.specs.Ports.{plan_bridges}
 use Rattle.gg_cut_plan.specs.declared.listed.Listed.{Listed}
 use Rattle.gg_cut_plan.specs.declared.wires.Wire.{Wire}
 use Rattle.gg_cut_plan.proofs.ChainLemmas.{lies-self}
-use Rattle.gg_cut_reference.proofs.FittingLemmas.LowLemmas.{wire-signal}
 use Rattle.gg_cut_plan.proofs.KnownLemmas.{parents-before}
 use Rattle.gg_cut_split.specs.inside.Apart.{AreApart}
 use Rattle.gg_cut_split.specs.inside.Longest.{listed_paths}
@@ -43,7 +42,7 @@ module _ (design : Ordered) (request : Request) (none : first_fault design reque
   apart : AreApart design.tree listed
   apart = faultless-apart design request none keeps.fitting
 
-  routed : AreRoutes design listed (plan_hub design.circuit design.tree request)
+  routed : AreRoutes design listed request.bridges (plan_hub design.circuit design.tree request)
   routed = plan-routed design request is keeps none
 
   -- ---- channels
@@ -51,20 +50,10 @@ module _ (design : Ordered) (request : Request) (none : first_fault design reque
   abbrev pub channels : List (List ℕ)
   channels = map (channel_name design.circuit wires) (range_with_len 0 (length wires))
 
-  -- the channels between the machines of the cut without bridges
-  abbrev base : List Wire
-  base = plan_routes design.circuit design.tree request
-
-  wires-count : length wires ≡ length base
-  wires-count = length-map base (seated_wire (plan_bridges design.circuit design.tree request))
-
-  same-signal : (c : ℕ) → (wire_at wires c).signal ≡ (wire_at base c).signal
-  same-signal c = wire-signal (plan_bridges design.circuit design.tree request) base c
-
   signal-there : (c : ℕ) → c < length wires → (wire_at wires c).signal < length design.circuit.paths
   signal-there c lt =
-      let known = routed.known c (wire 0 0 0) (omega (arith, lt, wires-count)) in
-      omega (arith, known, is.formed.named, same-signal c)
+      let known = routed.known c (wire 0 0 0) lt in
+      omega (arith, known, is.formed.named)
 
   channel-is : (c : ℕ) (d : List ℕ) → c < length wires → get_or channels c d ≡ path_at design.circuit.paths (wire_at wires c).signal
   channel-is c d lt = get_or-map-range_with_len (channel_name design.circuit wires) 0 (length wires) c c d lt (let same : 0 + c ≡ c = omega arith in same)
@@ -76,9 +65,9 @@ module _ (design : Ordered) (request : Request) (none : first_fault design reque
   channels-differ i j d less lt same =
       let below : j < length wires = channel-inside j lt in
       let before : i < length wires = omega (arith, less, below) in
-      routed.once i j (wire 0 0 0) less (omega (arith, below, wires-count))
-      (sym (same-signal i) ∙ once-apart design.circuit.paths [] is.formed.distinct (wire_at wires i).signal (wire_at wires j).signal (signal-there i before) (signal-there j below)
-      (sym (channel-is i d before) ∙ same ∙ channel-is j d below) ∙ same-signal j)
+      routed.once i j (wire 0 0 0) less below
+      (once-apart design.circuit.paths [] is.formed.distinct (wire_at wires i).signal (wire_at wires j).signal (signal-there i before) (signal-there j below)
+      (sym (channel-is i d before) ∙ same ∙ channel-is j d below))
 
   channels-plain : All IsPlain channels
   channels-plain c d lt =

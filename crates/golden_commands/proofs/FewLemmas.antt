@@ -13,8 +13,8 @@ use Rattle.gg_part.specs.KeepsToTree.{KeepsToTree}
 use Rattle.gg_order.specs.Design.{IsDesign, Ordered}
 use Rattle.gg_partfile.specs.declared.request.Request.{Request}
 use Rattle.gg_cut_plan.specs.Bridges.{Models}
-use Rattle.gg_cut_plan.specs.Direct.{is_driven, is_piped, plan_routes}
-use Rattle.gg_cut_plan.specs.Seated.{plan_bridges, seated_wire}
+use Rattle.gg_cut_plan.specs.Direct.{is_piped, plan_wires}
+use Rattle.gg_cut_plan.specs.Ports.{plan_bridges}
 use Rattle.gg_cut_plan.specs.Machines.{first_memory, first_source, is_memory}
 use Rattle.gg_cut_plan.specs.Fault.{first_fault}
 use Rattle.gg_cut_plan.specs.Listed.{listed_of}
@@ -45,7 +45,7 @@ module _ (design : Ordered) (request : Request) (models : Models) (default : ℕ
   listed = listed_of design.tree request
 
   abbrev wires_in : List Wire
-  wires_in = plan_routes design.circuit design.tree request
+  wires_in = plan_wires design.circuit design.tree request
 
   few : AreFew design.circuit design.tree request
   few = faultless-few design request faultless
@@ -60,7 +60,7 @@ module _ (design : Ordered) (request : Request) (models : Models) (default : ℕ
           | inl known ↦
               let ports : length (memory_at design.tree place).ports ≡ port_count design.circuit own = (keeps.fitting.held place known).ports in
               let counted : port_count design.circuit own ≡ length (readers_at design.circuit own) + length (writers_at design.circuit own) = ports-counted design.circuit.memories own in
-              let most : length (readers_at design.circuit own) + length (writers_at design.circuit own) ≤ length wires_in = memory-few design.circuit design.tree listed (is_piped design.circuit request) (is_driven design.circuit request) request.direct (routed-base design request is keeps faultless) i lt in
+              let most : length (readers_at design.circuit own) + length (writers_at design.circuit own) ≤ length wires_in = memory-few design.circuit design.tree listed (is_piped design.circuit request) request.bridges request.direct (routed-base design request is keeps faultless) i lt in
               let channels = few.channels in
               omega (arith, ports, counted, most, channels)
           | inr above ↦ past place (omega (arith, above))
@@ -85,7 +85,7 @@ module _ (design : Ordered) (request : Request) (models : Models) (default : ℕ
   few-names =
       let channels = few.channels in
       record {
-        channels = omega (arith, channels, planned.channel_total, length-map wires_in (seated_wire (plan_bridges design.circuit design.tree request)));
+        channels = omega (arith, channels, planned.channel_total);
         machines = planned.few;
         ports = λ m. subst (λ (l : Listed). length (port_names design.tree l m) < 2 ^ 32) (sym planned.listed) (ports-few m);
       }

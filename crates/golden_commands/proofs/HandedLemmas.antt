@@ -18,7 +18,7 @@ use Rattle.gg_partfile.specs.declared.request.BridgeEntry.{BridgeEntry}
 use Rattle.gg_partfile.specs.declared.request.Request.{Request}
 use Rattle.gg_cut_plan.specs.Bridges.{Models, model_named, model_or}
 use Rattle.gg_cut_plan.specs.Listed.{place_of}
-use Rattle.gg_cut_plan.specs.Seated.{output_count}
+use Rattle.gg_cut_plan.specs.Ports.{output_count}
 use Rattle.gg_cut_reference.specs.inside.Fitting.{IsFitting}
 use Rattle.gg_cut_plan.specs.declared.plan.Plan.{Plan}
 use Rattle.gg_cut_plan.proofs.PathLemmas.{first_place-Some}

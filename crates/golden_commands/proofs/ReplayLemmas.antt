@@ -13,9 +13,9 @@ use Rattle.gg_flat.proofs.ListLemmas.{some-item}
 use Rattle.gg_order.specs.Design.{Ordered}
 use Rattle.gg_partfile.specs.declared.request.Request.{Request}
 use Rattle.gg_cut_plan.specs.Channels.{capacity_of}
-use Rattle.gg_cut_plan.specs.Direct.{is_piped}
+use Rattle.gg_cut_plan.specs.Direct.{is_piped, plan_wires}
 use Rattle.gg_cut_plan.specs.Bridges.{Models}
-use Rattle.gg_cut_plan.specs.Seated.{machine_end, plan_bridges, plan_wires}
+use Rattle.gg_cut_plan.specs.Ports.{machine_end, plan_bridges}
 use Rattle.gg_cut_plan.specs.Listed.{listed_of}
 use Rattle.gg_cut_plan.specs.Plan.{IsChannel, machine_names, wire_at}
 use Rattle.gg_cut_plan.specs.Solves.{stream}

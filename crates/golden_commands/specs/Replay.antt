@@ -9,8 +9,8 @@ use Rattle.gg_flat.specs.Run.{column}
 use Rattle.gg_flat_tree.specs.Tree.{InstanceTree, memory_at, path_at}
 use Rattle.gg_order.specs.Design.{Ordered}
 use Rattle.gg_partfile.specs.declared.request.Request.{Request}
-use Rattle.gg_cut_plan.specs.Direct.{is_piped}
-use Rattle.gg_cut_plan.specs.Seated.{machine_end, plan_bridges, plan_wires}
+use Rattle.gg_cut_plan.specs.Direct.{is_piped, plan_wires}
+use Rattle.gg_cut_plan.specs.Ports.{machine_end, plan_bridges}
 use Rattle.gg_cut_plan.specs.Machines.{first_memory, is_memory}
 use Rattle.gg_cut_plan.specs.Listed.{listed_of}
 use Rattle.gg_cut_plan.specs.Plan.{machine_names, wire_at}

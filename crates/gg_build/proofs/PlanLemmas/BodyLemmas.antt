@@ -4,6 +4,7 @@ use Rattle.std.proofs.lemmas.List.{get_or-map, length-map}
 use Rattle.gg_flat.proofs.ListLemmas.{once-apart}
 use Rattle.gg_partfile.specs.declared.request.BridgeEntry.{BridgeEntry}
 use Rattle.std.specs.Prelude.{◌==◌}
+use Rattle.gg_flat.specs.Line.{value_at}
 use Rattle.gg_flat.specs.WellFormed.{IsWellFormed}
 use Rattle.gg_flat.specs.Run.{Start}
 use Rattle.gg_order.specs.Design.{Ordered}
@@ -14,8 +15,7 @@ use Rattle.gg_cut_plan.specs.declared.plan.Body.TheVariants.{Cut, Source, Bridge
 use Rattle.gg_cut_plan.specs.declared.plan.Plan.{Plan}
 use Rattle.gg_cut_plan.specs.Bridges.{Models, model_of}
 use Rattle.gg_cut_plan.specs.declared.plan.BridgeBody.{BridgeBody}
-use Rattle.gg_cut_plan.specs.Machines.{first_source}
-use Rattle.gg_cut_plan.specs.Seated.{first_bridge}
+use Rattle.gg_cut_plan.specs.Ports.{first_bridge}
 use Rattle.gg_cut_plan.specs.Plan.{wire_at as link_at, entry_at}
 use Rattle.gg_cut_plan.proofs.RangeLemmas.{filter-few}
 use Rattle.gg_build.specs.plan.Built.{machine_in, IsGiven}
@@ -23,12 +23,11 @@ use Rattle.gg_cut_reference.proofs.WholeLemmas.PortLemmas.{plan-ins}
 use Rattle.gg_build.specs.inside.Given.{Given, IsBodyAt, cut_of, given_of}
 use Rattle.gg_build.proofs.PlanLemmas.BridgeLemmas.{entry-model}
 use Rattle.gg_build.proofs.PlanLemmas.GivenLemmas.{are-few, are-links, body-is, entries-fit, is-routed}
-use Rattle.gg_build.proofs.PlanLemmas.SeatLemmas.{seated-many, source-at}
-use Rattle.gg_build.proofs.PlanLemmas.SideLemmas.{source-gives}
+use Rattle.gg_build.proofs.PlanLemmas.SideLemmas.{source-at, source-gives}
 
 module _ (given : Given) where
   open given use {design, request, models, plan, columns, can}
-  open cut_of design request use {listed, hub, bridges as b, base, wires}
+  open cut_of design request use {bridges as b, wires}
 
   pub unit-formed : (m : ℕ) (part : Part) → IsBodyAt given m (Cut part) → IsWellFormed part.piece
   unit-formed m part body = IsWellFormed-part design.circuit part.piece part.globals part.held part.memories part.clocks can.design_is.formed body.1.is
@@ -38,13 +37,13 @@ module _ (given : Given) where
   pub source-some : (m place : ℕ) → m < length plan.machines → IsBodyAt given m (Source place) → 0 < length (machine_in plan m).outs
   source-some m place lt body =
       let source = source-at design request (is-routed given) m place body.0 body.1 in
-      let gives = source-gives design listed hub (is-routed given) (first_source listed + source.base) source.base source.known refl in
-      omega (arith, gives, ap length ((are-links given).outs m lt), ap length source.seat.from)
+      let gives = source-gives wires m (value_at design.circuit.ins source.port) source.gives in
+      omega (arith, gives, ap length ((are-links given).outs m lt))
 
   pub source-few : (m : ℕ) → m < length plan.machines → length (machine_in plan m).outs < 2 ^ 32
   source-few m lt =
       let channels = (are-few given).channels in
-      omega (arith, ap length ((are-links given).outs m lt), channels, seated-many b base, filter-few (λ c. (link_at wires c).producer == m) 0 (length wires))
+      omega (arith, ap length ((are-links given).outs m lt), channels, filter-few (λ c. (link_at wires c).producer == m) 0 (length wires))
 
   pub source-known : (m place : ℕ) → IsBodyAt given m (Source place) → place < length columns
   source-known m place body = omega (arith, body.0, given.given.count, ap length (plan-ins design request models can))

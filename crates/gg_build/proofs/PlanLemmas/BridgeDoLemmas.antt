@@ -13,7 +13,7 @@ use Rattle.gg_cut_plan.specs.declared.plan.Body.TheVariants.{Bridge}
 use Rattle.gg_cut_plan.specs.declared.plan.BridgeBody.{BridgeBody}
 use Rattle.gg_cut_plan.specs.Bridges.{model_of}
 use Rattle.gg_cut_plan.specs.Plan.{wire_at as link_at, channels_to, channels_from, signals_of, givens_of}
-use Rattle.gg_cut_plan.specs.Seated.{first_bridge}
+use Rattle.gg_cut_plan.specs.Ports.{first_bridge}
 use Rattle.gg_cut_plan.specs.Solves.{AreRows, model_start}
 use Rattle.gg_cut_reference.specs.Links.{taken_as}
 use Rattle.gg_cut_reference.proofs.PipeLemmas.{since-less}
@@ -23,7 +23,6 @@ use Rattle.gg_cut_reference.specs.inside.Whole.{RunsModel, driven_signal, model_
 use Rattle.gg_node.specs.Machine.{Machine, needs_at}
 use Rattle.gg_net.specs.Network.{kind_of}
 use Rattle.gg_net.proofs.StateLemmas.{column-at}
-use Rattle.gg_cut_reference.proofs.FittingLemmas.LowLemmas.{wire-given, wire-signal}
 use Rattle.gg_build.specs.inside.Given.{Given, IsBodyAt, cut_of, run_of}
 use Rattle.gg_build.proofs.PlanLemmas.GivenLemmas.{runs-whole}
 use Rattle.gg_build.proofs.PlanLemmas.BridgeLemmas.{bridge-model, bridge-ports, driven-at, driven_place, entry, entry-model, gives-port, path-back, seen-at, seen_place, takes-port}
@@ -34,7 +33,7 @@ use Rattle.gg_build.proofs.PlanLemmas.TurnedLemmas.{input-row, turned-formed, tu
 
 module _ (given : Given) (m : ℕ) (bridge : BridgeBody) (body : IsBodyAt given m (Bridge bridge)) where
   open given use {design, request, models, n, start, rows}
-  open cut_of design request use {hub, bridges as b, base, wires}
+  open cut_of design request use {hub, bridges as b, wires}
   open run_of given use {count, own as reference}
 
   abbrev k : ℕ
@@ -63,7 +62,7 @@ module _ (given : Given) (m : ℕ) (bridge : BridgeBody) (body : IsBodyAt given 
   -- ---- a channel that it takes
 
   -- the column of the port's place is what the circuit has for the channel
-  pub seen-column : (c : ℕ) → Contains (channels_to wires m) c → get_or seen_columns (seen_place given m bridge body c) [] ≡ column rows (taken_as hub (link_at base c).signal)
+  pub seen-column : (c : ℕ) → Contains (channels_to wires m) c → get_or seen_columns (seen_place given m bridge body c) [] ≡ column rows (taken_as hub (link_at wires c).signal)
   seen-column c h =
       let at = seen-at given m bridge body c h in
       let port = takes-port given m bridge body c h in
@@ -71,7 +70,7 @@ module _ (given : Given) (m : ℕ) (bridge : BridgeBody) (body : IsBodyAt given 
       let place = seen_place given m bridge body c in
       get_or-map (λ name. column rows (bridge_signal design request name)) names place [] [] at.among
       ∙ ap (λ name. column rows (bridge_signal design request name)) at.name
-      ∙ ap (λ s. column rows (taken_as hub s)) (path-back given m bridge body (link_at base c).signal port.signal)
+      ∙ ap (λ s. column rows (taken_as hub s)) (path-back given m bridge body (link_at wires c).signal port.signal)
 
   seen-value : (c t : ℕ) → Contains (channels_to wires m) c → start.cycle ≤ t → t < n → value_at (row_at own t) (value_at model.ins (seen_place given m bridge body c)) ≡ value_at (row_at reference t) (taken_as hub (link_at wires c).signal)
   seen-value c t h le lt =
@@ -79,26 +78,25 @@ module _ (given : Given) (m : ℕ) (bridge : BridgeBody) (body : IsBodyAt given 
       let port = takes-port given m bridge body c h in
       let place = seen_place given m bridge body c in
       let u = since start.cycle t in
-      let s = taken_as hub (link_at base c).signal in
+      let s = taken_as hub (link_at wires c).signal in
       let there : place < length seen_columns = omega (arith, at.among, length-map (entry given m bridge body).sees (λ name. column rows (bridge_signal design request name))) in
       ap (λ (row : List ℕ). value_at row (value_at model.ins place)) (sym (row-dropped start.cycle t own le))
       ∙ input-row model (model_start model start) seen_columns (since start.cycle n) (drop start.cycle own) (bridge-model given m bridge body).formed model-run.run place u at.place (since-less start.cycle t n le lt)
       ∙ get_or-map (λ (l : List ℕ). value_at l (later start.cycle u)) seen_columns place [] 0 there
       ∙ ap₂ (λ (l : List ℕ) j. value_at l j) (seen-column c h) (later-since start.cycle t le)
       ∙ column-at rows s t
-      ∙ front-value count rows t s (taken-below given (link_at base c).signal port.signal)
-      ∙ ap (λ j. value_at (row_at reference t) (taken_as hub j)) (sym (wire-signal b base c))
+      ∙ front-value count rows t s (taken-below given (link_at wires c).signal port.signal)
 
   -- ---- a channel that it gives
 
   -- the column of the port's place is what the circuit has for the channel
-  pub driven-column : (c : ℕ) → Contains (channels_from wires m) c → column own (value_at bridge.model.outs (driven_place given m bridge body c)) ≡ column rows (link_at base c).given
+  pub driven-column : (c : ℕ) → Contains (channels_from wires m) c → column own (value_at bridge.model.outs (driven_place given m bridge body c)) ≡ column rows (link_at wires c).given
   driven-column c h =
       let at = driven-at given m bridge body c h in
       let port = gives-port given m bridge body c h in
       let place = driven_place given m bridge body c in
       sym
-      (ap (column rows) (port.plain ∙ sym (path-back given m bridge body (link_at base c).signal port.signal) ∙ ap (driven_signal design) (sym at.name))
+      (ap (column rows) (port.plain ∙ sym (path-back given m bridge body (link_at wires c).signal port.signal) ∙ ap (driven_signal design) (sym at.name))
       ∙ runs-model.driven place at.among
       ∙ ap (λ (l : FlatCircuit). column own (value_at l.outs place)) same-model)
 
@@ -106,13 +104,12 @@ module _ (given : Given) (m : ℕ) (bridge : BridgeBody) (body : IsBodyAt given 
   driven-value c t h =
       let port = gives-port given m bridge body c h in
       let place = driven_place given m bridge body c in
-      let s = (link_at base c).given in
+      let s = (link_at wires c).given in
       let low : s < count = below given s (subst (λ j. j < length design.circuit.signals) (sym port.plain) port.signal) in
       sym (column-at own (value_at model.outs place) t)
       ∙ ap (λ (l : List ℕ). value_at l t) (driven-column c h)
       ∙ column-at rows s t
       ∙ front-value count rows t s low
-      ∙ ap (value_at (row_at reference t)) (sym (wire-given b base c))
 
   -- ---- the machine
 

@@ -1,50 +1,37 @@
 -- A plan's bridge: its model, the channels that it takes and gives, and the ports that they are.
-use Rattle.std.proofs.Common.{◌≡◌, ◌≢◌, ℕ, ◌+◌, ◌-◌, ◌<◌, ◌≤◌, List, [], length, map, take, get_or, true, Some, refl, sym, ◌∙◌, ap, ap₂, subst, inl, inr, ◌⊎◌, arith}
-use Rattle.std.specs.Prelude.{All, AllPairs, Contains, ◌==◌, ◌&&◌}
-use Rattle.std.proofs.lemmas.Bool.{cases_lt}
+use Rattle.std.proofs.Common.{◌≡◌, ◌≢◌, ℕ, ◌+◌, ◌-◌, ◌<◌, List, [], length, map, take, get_or, Some, refl, sym, ◌∙◌, ap, subst, arith}
+use Rattle.std.specs.Prelude.{All, AllPairs, Contains, ◌==◌}
 use Rattle.std.proofs.lemmas.List.{get_or-take, length-map, length-take}
 use Rattle.std.proofs.lemmas.List.Elements.{All-map, Contains-get_or}
 use Rattle.std.proofs.lemmas.Option.{same_Some}
-use Rattle.gg_flat.specs.Circuit.{FlatCircuit, driver_at, signal_shapes}
+use Rattle.gg_flat.specs.Circuit.{FlatCircuit, signal_shapes}
 use Rattle.gg_flat.specs.Line.{shape_at, value_at}
 use Rattle.gg_flat_tree.specs.Tree.{path_at}
 use Rattle.gg_flat.proofs.ListLemmas.{Contains-map, once-apart}
 use Rattle.gg_part.proofs.FrameLemmas.{length-once}
 use Rattle.gg_partfile.specs.declared.request.BridgeEntry.{BridgeEntry}
-use Rattle.gg_partfile.specs.Size.{all_driven}
 use Rattle.gg_cut_plan.specs.declared.plan.Body.TheVariants.{Bridge}
 use Rattle.gg_cut_plan.specs.declared.plan.BridgeBody.{BridgeBody}
 use Rattle.gg_cut_plan.specs.declared.wires.Wire.{Wire as Link}
 use Rattle.gg_cut_plan.specs.Bridges.{model_named, model_of, model_or, shapes_at}
 use Rattle.gg_cut_plan.specs.Channels.{wire}
-use Rattle.gg_cut_plan.specs.Direct.{is_driven, is_input}
-use Rattle.gg_cut_plan.specs.Machines.{first_source, first_tray}
 use Rattle.gg_cut_plan.specs.Plan.{wire_at as link_at, channels_to, channels_from, entry_at, port_place, signals_of, givens_of}
-use Rattle.gg_cut_plan.specs.Seated.{first_bridge, output_count, seat_of, first_kept_tray, unseen}
-use Rattle.gg_cut_plan.specs.inside.Seated.{IsDriven as IsDrivenBy, IsSeen as IsSeenBy}
-use Rattle.gg_bits.specs.Lists.{number_or, count_below}
-use Rattle.gg_cut_plan.proofs.OriginLemmas.{chain-end, clash}
-use Rattle.gg_cut_plan.proofs.PathLemmas.{among-contains}
+use Rattle.gg_cut_plan.specs.Ports.{first_bridge, output_count}
 use Rattle.gg_cut_reference.specs.inside.Fitting.{AreFitting, IsFitting}
 use Rattle.gg_cut_reference.proofs.FittingLemmas.AttachLemmas.{fit-count, model-is}
-use Rattle.gg_cut_reference.proofs.FittingLemmas.BridgeLemmas.{driven-by, seen-by}
 use Rattle.gg_cut_reference.proofs.FittingLemmas.PortLemmas.{driver-has, viewer-has, viewer-is}
-use Rattle.gg_cut_reference.proofs.FittingLemmas.SeatedLemmas.{seat-tray}
 use Rattle.gg_cut_split.proofs.ClosedLemmas.ListLemmas.{Somewhere, map-cases, AllPairs-map}
 use Rattle.gg_cut_routes.proofs.FewLemmas.{long}
-use Rattle.gg_cut_routes.proofs.RouteLemmas.{IsBase, IsRoute, Routing, Plain, Direct, direct-given, out-routes, plain-given, route-signal, routing}
-use Rattle.gg_cut_routes.proofs.RoutedLemmas.{routed-base}
+use Rattle.gg_cut_routes.specs.inside.Routes.{IsAtPorts}
 use Rattle.gg_bridge.specs.Model.{IsModel}
 use Rattle.gg_bridge.specs.inside.Turned.{AreAllPlaces}
 use Rattle.gg_bridge.specs.inside.Hosted.{ArePorts}
 use Rattle.gg_cut_reference.specs.inside.Whole.{signal_called}
-use Rattle.gg_cut_reference.proofs.FittingLemmas.LowLemmas.{wire-seated}
 use Rattle.gg_build.specs.inside.Given.{Given, IsBodyAt, cut_of}
-use Rattle.gg_build.proofs.PlanLemmas.GivenLemmas.{entries-fit, is-routed, no-fault}
-use Rattle.gg_build.proofs.PlanLemmas.ListedLemmas.{IsTakenBy, IsGivenBy, given-in, given-is, taken-in, taken-is}
+use Rattle.gg_build.proofs.PlanLemmas.GivenLemmas.{entries-fit, is-routed}
+use Rattle.gg_build.proofs.PlanLemmas.ListedLemmas.{IsGivenBy, given-is, taken-is}
 use Rattle.gg_build.proofs.PlanLemmas.NumberLemmas.{numbers-once}
-use Rattle.gg_build.proofs.PlanLemmas.PlaceLemmas.{listed-by, own-differ, place-back, port-place}
-use Rattle.gg_build.proofs.PlanLemmas.SeatLemmas.{seated-many}
+use Rattle.gg_build.proofs.PlanLemmas.PlaceLemmas.{own-differ, place-back, port-place}
 use Rattle.gg_build.proofs.PlanLemmas.SideLemmas.{link-one}
 
 abbrev nothing : BridgeEntry
@@ -52,7 +39,7 @@ nothing = record { name = []; sees = []; drives = [] }
 
 module _ (given : Given) (m : ℕ) (bridge : BridgeBody) (body : IsBodyAt given m (Bridge bridge)) where
   open given use {design, request, models, can, design.{circuit}}
-  open cut_of design request use {listed, hub, bridges as b, base, wires}
+  open cut_of design request use {bridges as b, wires}
 
   -- its entry
   abbrev pub place_of_entry : ℕ
@@ -97,80 +84,54 @@ module _ (given : Given) (m : ℕ) (bridge : BridgeBody) (body : IsBodyAt given 
 
   -- ---- what it takes
 
+  at-ports : IsAtPorts circuit b wires place_of_entry
+  at-ports = (is-routed given).bridges place_of_entry body.1.known
+
+  number : first_bridge b + place_of_entry ≡ m
+  number = omega (arith, body.0)
+
   -- the channel is that of an output that the bridge sees
   pub record TakesPort (c : ℕ) : Type 0 where
-    pub known : c < length base
-    pub signal : (link_at base c).signal < length circuit.signals
-    pub listed : Contains entry.sees (path_at circuit.paths (link_at base c).signal)
+    pub known : c < length wires
+    pub signal : (link_at wires c).signal < length circuit.signals
+    pub listed : Contains entry.sees (path_at circuit.paths (link_at wires c).signal)
 
   pub takes-port : (c : ℕ) → Contains (channels_to wires m) c → TakesPort c
-  takes-port c h = by (seen-by b place_of_entry q ends (no-source (cases_lt q b.first) (cases_lt q (b.first + b.ins))) seat)
+  takes-port c h = by ((at-ports.takes (link_at wires c).signal).0 (subst (λ k. Contains (signals_of wires (channels_to wires k)) (link_at wires c).signal) (sym number) (Contains-map (λ k. (link_at wires k).signal) (channels_to wires m) c h)))
     where
-      taken : IsTakenBy wires m c
-      taken = taken-is wires m c h
+      low : c < length wires
+      low = (taken-is wires m c h).known
 
-      low : c < length base
-      low = omega (arith, taken.known, seated-many b base)
-
-      q : ℕ
-      q = (link_at base c).consumer
-
-      ends : q < b.first + b.ins + b.outs
-      ends = ((is-routed given).ends c (wire 0 0 0) low).1
-
-      seat : seat_of b q ≡ first_bridge b + place_of_entry
-      seat = let at = ap (λ (l : Link). l.consumer) (sym (wire-seated b base c low)) ∙ taken.consumer in omega (arith, at, body.0)
-
-      own : Contains (signals_of base (channels_to base q)) (link_at base c).signal
-      own = Contains-map (λ k. (link_at base k).signal) (channels_to base q) c (taken-in base q c (record { known = low; consumer = refl }))
-
-      no-source : (q < b.first) ⊎ (b.first ≤ q) → (q < b.first + b.ins) ⊎ (b.first + b.ins ≤ q) → (q < b.first) ⊎ (b.first + b.ins ≤ q)
-      no-source (inl less) other = inl less
-      no-source (inr ge) (inr more) = inr more
-      no-source (inr ge) (inl less) =
-          let p = q - b.first in
-          let at : q ≡ first_source listed + p = omega (arith, ge) in
-          absurd (((is-routed given).sources p (omega (arith, ge, less))).none (link_at base c).signal (subst (λ k. Contains (signals_of base (channels_to base k)) (link_at base c).signal) at own))
-
-      by : IsSeenBy b place_of_entry q → TakesPort c
-      by seen =
-          let s = value_at circuit.outs seen.place in
-          let at : q ≡ first_tray circuit listed + seen.place = omega (arith, seen.is) in
-          let is : (link_at base c).signal ≡ s = ((is-routed given).trays seen.place seen.known).all (link_at base c).signal (subst (λ k. Contains (signals_of base (channels_to base k)) (link_at base c).signal) at own) in
-          let sees = (viewer-has circuit design.tree request seen.place place_of_entry seen.viewer).2 in
+      by : (p : ℕ) × (p < b.outs) × (b.viewer p ≡ Some place_of_entry) × (value_at circuit.outs p ≡ (link_at wires c).signal) → TakesPort c
+      by (p, lt, viewer, value) =
+          let sees = (viewer-has circuit design.tree request p place_of_entry viewer).2 in
           record {
             known = low;
             signal = (is-routed given).known c (wire 0 0 0) low;
-            listed = subst (λ k. Contains entry.sees (path k)) (sym is) sees;
+            listed = subst (λ k. Contains entry.sees (path k)) value sees;
           }
 
   -- the place of the port of a channel that it takes
   abbrev pub seen_place : ℕ → ℕ
   seen_place c = port_place entry.sees (path_at circuit.paths (link_at wires c).signal)
 
-  same-signal : (c : ℕ) → c < length base → (link_at wires c).signal ≡ (link_at base c).signal
-  same-signal c lt = ap (λ (l : Link). l.signal) (wire-seated b base c lt)
-
   -- the place is one of the model's in-signals, and has the port's name
   pub record IsSeenAt (c : ℕ) : Type 0 where
     pub place : seen_place c < length bridge.model.ins
     pub among : seen_place c < length entry.sees
-    pub name : path_at entry.sees (seen_place c) ≡ path_at circuit.paths (link_at base c).signal
+    pub name : path_at entry.sees (seen_place c) ≡ path_at circuit.paths (link_at wires c).signal
 
   pub seen-at : (c : ℕ) → Contains (channels_to wires m) c → IsSeenAt c
   seen-at c h =
-      let port = takes-port c h in
-      let same = same-signal c port.known in
-      let at = port-place entry.sees (path (link_at base c).signal) port.listed in
-      let is : seen_place c ≡ port_place entry.sees (path (link_at base c).signal) = ap (λ s. port_place entry.sees (path s)) same in
-      record { place = omega (arith, is, at.known, see-count); among = omega (arith, is, at.known); name = ap (path_at entry.sees) is ∙ at.is }
+      let at = port-place entry.sees (path (link_at wires c).signal) (takes-port c h).listed in
+      record { place = omega (arith, at.known, see-count); among = at.known; name = at.is }
 
   seen-once : (c d : ℕ) → Contains (channels_to wires m) c → Contains (channels_to wires m) d → seen_place c ≡ seen_place d → c ≡ d
   seen-once c d h k same =
       let one = takes-port c h in
       let two = takes-port d k in
-      let paths : path (link_at base c).signal ≡ path (link_at base d).signal = sym (seen-at c h).name ∙ ap (path_at entry.sees) same ∙ (seen-at d k).name in
-      link-one base c d (is-routed given).once one.known two.known (path-once (link_at base c).signal (link_at base d).signal one.signal two.signal paths)
+      let paths : path (link_at wires c).signal ≡ path (link_at wires d).signal = sym (seen-at c h).name ∙ ap (path_at entry.sees) same ∙ (seen-at d k).name in
+      link-one wires c d (is-routed given).once one.known two.known (path-once (link_at wires c).signal (link_at wires d).signal one.signal two.signal paths)
 
   sees-differ : AllPairs (λ a b. a ≢ b) entry.sees
   sees-differ = own-differ (λ entry. entry.sees) request.bridges place_of_entry nothing fits.sees body.1.known
@@ -178,8 +139,8 @@ module _ (given : Given) (m : ℕ) (bridge : BridgeBody) (body : IsBodyAt given 
   -- each place has a channel
   seen-every : (place : ℕ) → place < length bridge.model.ins → Contains (map seen_place (channels_to wires m)) place
   seen-every place lt =
-      subst (Contains (map seen_place (channels_to wires m))) (ap (λ s. port_place entry.sees (path s)) (same-signal c taken.known ∙ at.holds 0) ∙ ap (port_place entry.sees) is-name ∙ place-back entry.sees place sees-differ inside)
-      (Contains-map seen_place (channels_to wires m) c there)
+      subst (Contains (map seen_place (channels_to wires m))) (ap (λ s. port_place entry.sees (path s)) (at.holds 0) ∙ ap (port_place entry.sees) is-name ∙ place-back entry.sees place sees-differ inside)
+      (Contains-map seen_place (channels_to wires m) (value_at (channels_to wires m) at.place) (Contains-get_or (channels_to wires m) at.place 0 at.within))
     where
       inside : place < length entry.sees
       inside = omega (arith, lt, see-count)
@@ -202,25 +163,10 @@ module _ (given : Given) (m : ℕ) (bridge : BridgeBody) (body : IsBodyAt given 
       views : b.viewer p ≡ Some place_of_entry
       views = viewer-is circuit design.tree request p place_of_entry fits.sees below body.1.known (subst (Contains entry.sees) (sym is-name) (Contains-get_or entry.sees place [] inside))
 
-      seat : seat_of b (first_tray circuit listed + p) ≡ m
-      seat = let at = seat-tray b p ∙ ap (number_or (first_bridge b) (first_kept_tray b + count_below (unseen b) p)) views in omega (arith, at, body.0)
-
-      at : Somewhere (λ k. (link_at base k).signal ≡ value_at circuit.outs p) (channels_to base (first_tray circuit listed + p))
-      at = map-cases (λ k. (link_at base k).signal) (channels_to base (first_tray circuit listed + p)) (value_at circuit.outs p) ((is-routed given).trays p known).one
-
-      c : ℕ
-      c = value_at (channels_to base (first_tray circuit listed + p)) at.place
-
-      taken : IsTakenBy base (first_tray circuit listed + p) c
-      taken = taken-is base (first_tray circuit listed + p) c (Contains-get_or (channels_to base (first_tray circuit listed + p)) at.place 0 at.within)
-
-      there : Contains (channels_to wires m) c
-      there =
-          taken-in wires m c
-          (record {
-            known = omega (arith, taken.known, seated-many b base);
-            consumer = ap (λ (l : Link). l.consumer) (wire-seated b base c taken.known) ∙ ap (seat_of b) taken.consumer ∙ seat;
-          })
+      at : Somewhere (λ k. (link_at wires k).signal ≡ value_at circuit.outs p) (channels_to wires m)
+      at =
+          map-cases (λ k. (link_at wires k).signal) (channels_to wires m) (value_at circuit.outs p)
+          (subst (λ k. Contains (signals_of wires (channels_to wires k)) (value_at circuit.outs p)) number ((at-ports.takes (value_at circuit.outs p)).1 (p, known, views, refl)))
 
   all-places : AreAllPlaces (length bridge.model.ins) (map seen_place (channels_to wires m))
   all-places =
@@ -238,70 +184,26 @@ module _ (given : Given) (m : ℕ) (bridge : BridgeBody) (body : IsBodyAt given 
 
   -- the channel is that of an input that the bridge drives, and is given by the input itself
   pub record GivesPort (c : ℕ) : Type 0 where
-    pub known : c < length base
-    pub signal : (link_at base c).signal < length circuit.signals
-    pub plain : (link_at base c).given ≡ (link_at base c).signal
-    pub listed : Contains entry.drives (path_at circuit.paths (link_at base c).signal)
-
-  is-base : IsBase hub
-  is-base = routed-base design request can.design_is can.keeps (no-fault given)
-
-  -- a channel that is given by an input that a bridge drives isn't direct
-  plain-link : (r : Link) → Contains base r → is_driven circuit request r.given ≡ true → r.given ≡ r.signal
-  plain-link r h driven = by (out-routes hub is-base r h)
-    where
-      of : (w : IsRoute hub is-base r) → Routing hub is-base w.wire → r.given ≡ r.signal
-      of w (Plain e) = ap (λ (q : Link). q.given) (sym w.is) ∙ plain-given hub is-base w.wire w.among e ∙ sym (route-signal hub is-base w.wire) ∙ ap (λ (q : Link). q.signal) w.is
-      of w (Direct x e d into) =
-          let is : x ≡ r.given = sym (direct-given hub is-base w.wire x e) ∙ ap (λ (q : Link). q.given) w.is in
-          let end = chain-end hub (length circuit.signals) d.next x d.from in
-          absurd (clash (is_driven circuit request x) (ap (is_driven circuit request) is ∙ driven) end.free)
-
-      by : IsRoute hub is-base r → r.given ≡ r.signal
-      by w = of w (routing hub is-base w.wire)
+    pub signal : (link_at wires c).signal < length circuit.signals
+    pub plain : (link_at wires c).given ≡ (link_at wires c).signal
+    pub listed : Contains entry.drives (path_at circuit.paths (link_at wires c).signal)
 
   pub gives-port : (c : ℕ) → Contains (channels_from wires m) c → GivesPort c
-  gives-port c h = by (driven-by b place_of_entry q (no-tray (cases_lt q (b.first + b.ins))) seat)
+  gives-port c h = by ((at-ports.gives (link_at wires c).given).0 (subst (λ k. Contains (givens_of wires (channels_from wires k)) (link_at wires c).given) (sym number) (Contains-map (λ k. (link_at wires k).given) (channels_from wires m) c h)))
     where
       gives : IsGivenBy wires m c
       gives = given-is wires m c h
 
-      low : c < length base
-      low = omega (arith, gives.known, seated-many b base)
+      plain : (link_at wires c).given ≡ (link_at wires c).signal
+      plain = at-ports.plain (link_at wires c) (Contains-get_or wires c (wire 0 0 0) gives.known) (gives.producer ∙ sym number)
 
-      q : ℕ
-      q = (link_at base c).producer
-
-      ends : q < b.first + b.ins + b.outs
-      ends = ((is-routed given).ends c (wire 0 0 0) low).0
-
-      seat : seat_of b q ≡ first_bridge b + place_of_entry
-      seat = let at = ap (λ (l : Link). l.producer) (sym (wire-seated b base c low)) ∙ gives.producer in omega (arith, at, body.0)
-
-      own : Contains (givens_of base (channels_from base q)) (link_at base c).given
-      own = Contains-map (λ k. (link_at base k).given) (channels_from base q) c (given-in base q c (record { known = low; producer = refl }))
-
-      no-tray : (q < b.first + b.ins) ⊎ (b.first + b.ins ≤ q) → q < b.first + b.ins
-      no-tray (inl less) = less
-      no-tray (inr ge) =
-          let p = q - (b.first + b.ins) in
-          let at : q ≡ first_tray circuit listed + p = omega (arith, ge) in
-          absurd (((is-routed given).trays p (omega (arith, ge, ends))).none (link_at base c).given (subst (λ k. Contains (givens_of base (channels_from base k)) (link_at base c).given) at own))
-
-      by : IsDrivenBy b place_of_entry q → GivesPort c
-      by driven =
-          let s = value_at circuit.ins driven.place in
-          let is : (link_at base c).given ≡ s = ((is-routed given).sources driven.place driven.known).all (link_at base c).given (subst (λ k. Contains (givens_of base (channels_from base k)) (link_at base c).given) driven.is own) in
-          let drives = (driver-has circuit design.tree request driven.place place_of_entry driven.driver).1 in
-          let input : is_input (driver_at circuit s) ≡ true = ap is_input (can.design_is.formed.ins driven.place driven.known).1 in
-          let among = among-contains (all_driven request.bridges) (path s) (listed-by (λ entry. entry.drives) request.bridges place_of_entry nothing (path s) body.1.known drives) in
-          let own_driven : is_driven circuit request s ≡ true = ap₂ (λ x y. x && y) input among in
-          let plain = plain-link (link_at base c) (Contains-get_or base c (wire 0 0 0) low) (ap (is_driven circuit request) is ∙ own_driven) in
+      by : (p : ℕ) × (p < b.ins) × (b.driver p ≡ Some place_of_entry) × (value_at circuit.ins p ≡ (link_at wires c).given) → GivesPort c
+      by (p, lt, driver, value) =
+          let drives = (driver-has circuit design.tree request p place_of_entry driver).1 in
           record {
-            known = low;
-            signal = (is-routed given).known c (wire 0 0 0) low;
+            signal = (is-routed given).known c (wire 0 0 0) gives.known;
             plain = plain;
-            listed = subst (λ k. Contains entry.drives (path k)) (sym is ∙ plain) drives;
+            listed = subst (λ k. Contains entry.drives (path k)) (value ∙ plain) drives;
           }
 
   -- the place of the port of a channel that it gives
@@ -311,15 +213,12 @@ module _ (given : Given) (m : ℕ) (bridge : BridgeBody) (body : IsBodyAt given 
   pub record IsDrivenAt (c : ℕ) : Type 0 where
     pub place : driven_place c < length bridge.model.outs
     pub among : driven_place c < length entry.drives
-    pub name : path_at entry.drives (driven_place c) ≡ path_at circuit.paths (link_at base c).signal
+    pub name : path_at entry.drives (driven_place c) ≡ path_at circuit.paths (link_at wires c).signal
 
   pub driven-at : (c : ℕ) → Contains (channels_from wires m) c → IsDrivenAt c
   driven-at c h =
-      let port = gives-port c h in
-      let same = same-signal c port.known in
-      let at = port-place entry.drives (path (link_at base c).signal) port.listed in
-      let is : driven_place c ≡ port_place entry.drives (path (link_at base c).signal) = ap (λ s. port_place entry.drives (path s)) same in
-      record { place = omega (arith, is, at.known, drive-count); among = omega (arith, is, at.known); name = ap (path_at entry.drives) is ∙ at.is }
+      let at = port-place entry.drives (path (link_at wires c).signal) (gives-port c h).listed in
+      record { place = omega (arith, at.known, drive-count); among = at.known; name = at.is }
 
   -- ---- its ports
 

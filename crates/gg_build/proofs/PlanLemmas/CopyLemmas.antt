@@ -24,7 +24,7 @@ module _ (hub : Hub) (order : List ℕ) (ordered : IsOrder hub.circuit order) wh
   chain-reaches (suc n) s x e = by (chain hub (suc n) s x e) (λ t h. chain-reaches n t x h)
     where
       by : Chain hub (suc n) s x → ((t : ℕ) → origin_within hub n t ≡ Some x → Reaches hub.circuit t x) → Reaches hub.circuit s x
-      by (Here more same taken plain free is) rest = subst (Reaches hub.circuit s) is (Reaches-itself hub.circuit s)
+      by (Here more same taken plain is) rest = subst (Reaches hub.circuit s) is (Reaches-itself hub.circuit s)
       by (Copy more t same taken own to h) rest =
           let less : more ≡ n = omega (arith, same) in
           copy-reaches s t x to (rest t (subst (λ k. origin_within hub k t ≡ Some x) less h))

@@ -11,7 +11,6 @@ use Rattle.gg_cut_plan.specs.declared.listed.Listed.{Listed}
 use Rattle.gg_cut_plan.specs.declared.plan.Body.{Body}
 use Rattle.gg_cut_plan.specs.declared.plan.Body.TheVariants.{Cut, Memory, Source, Tray, Bridge}
 use Rattle.gg_cut_plan.specs.declared.wires.Wire.{Wire as Link}
-use Rattle.gg_cut_plan.specs.Machines.{first_source, first_tray}
 use Rattle.gg_cut_plan.specs.Direct.{Hub, routes}
 use Rattle.gg_cut_plan.specs.Plan.{wire_at as link_at, channels_to, channels_from, IsCutPart}
 use Rattle.gg_bridge.specs.Turned.{turned}
@@ -23,8 +22,7 @@ use Rattle.gg_build.specs.plan.Built.{machine_in, nameless, IsUnitOf, IsMemoryOf
 use Rattle.gg_build.specs.inside.Given.{Given, IsBodyAt, cut_of}
 use Rattle.gg_build.proofs.PlanLemmas.BridgeLemmas.{driven_place, seen_place}
 use Rattle.gg_build.proofs.PlanLemmas.GivenLemmas.{is-routed}
-use Rattle.gg_build.proofs.PlanLemmas.SeatLemmas.{IsSeatOf, low-seat, source-at, tray-seat}
-use Rattle.gg_build.proofs.PlanLemmas.SideLemmas.{source-takes, tray-takes, tray-gives-none}
+use Rattle.gg_build.proofs.PlanLemmas.SideLemmas.{source-at, source-takes, tray-at, tray-gives-none, tray-takes}
 use Rattle.gg_build.proofs.PlanLemmas.PortLemmas.{needs-there, no-needs, needs-count, piece-needs, IsFitPort, ports-fit}
 use Rattle.gg_build.proofs.PlanLemmas.WiredLemmas.{IsFitting, AreFitting}
 
@@ -85,10 +83,6 @@ module _ (design : Ordered) (listed : Listed) (hub : Hub) (m : ℕ) (part : Part
 
 -- ---- all machines
 
--- a machine that lists as many channels fits as well
-fitting-by : (one other : List Link) (m n : ℕ) (kind : Kind) → channels_to one m ≡ channels_to other n → channels_from one m ≡ channels_from other n → IsFitting other n kind → IsFitting one m kind
-fitting-by one other m n kind into from fit = record { ins = fit.ins ∙ ap length (sym into); outs = fit.outs ∙ ap length (sym from); needs = fit.needs; fields = fit.fields; numbers = fit.numbers }
-
 -- the kind of a machine of the network by its number
 pub kind-is : (machines : List Machine) (m : ℕ) → m < length machines → kind_at (map kind_of machines) m ≡ kind_of (machine_at machines m)
 kind-is machines m lt = get_or-map kind_of machines m no_machine no_kind lt
@@ -97,33 +91,25 @@ module _ (given : Given) where
   open given use {design, request, plan, columns}
   open cut_of design request use {listed, hub, wires}
 
-  -- what fits machine `base` of the cut fits the plan's machine that it is
-  seat-fits : (m base : ℕ) (kind : Kind) → IsSeatOf design request m base → IsFitting (routes hub) base kind → IsFitting wires m kind
-  seat-fits m base kind seat fit = fitting-by wires (routes hub) m base kind seat.into seat.from fit
-
   fits : (m : ℕ) (own : Start) (body : Body) (machine : Machine) → IsBodyAt given m body → IsBuilt columns (length (channels_from wires m)) own body machine → IsFitting wires m (kind_of machine)
-  fits m own (Cut part) machine body built =
-      seat-fits m m (kind_of machine) (low-seat design request (is-routed given) m (omega (arith, body.0))) (unit-fits design listed hub m part body.1 own machine built)
-  fits m own (Memory part) machine body built = seat-fits m m (kind_of machine) (low-seat design request (is-routed given) m body.1) (memory-fits design listed hub m part body.2 own machine built)
+  fits m own (Cut part) machine body built = unit-fits design listed hub m part body.1 own machine built
+  fits m own (Memory part) machine body built = memory-fits design listed hub m part body.2 own machine built
   fits m own (Source place) machine body built =
       let source = source-at design request (is-routed given) m place body.0 body.1 in
-      let seat = source.seat in
       subst (λ (t : Machine). IsFitting wires m (kind_of t)) (sym built)
       (record {
-        ins = sym (ap length seat.into ∙ source-takes design listed hub (is-routed given) (first_source listed + source.base) source.base source.known refl);
+        ins = sym (source-takes wires m (value_at design.circuit.ins source.port) source.gives);
         outs = length-replicate (length (channels_from wires m)) false;
         needs = λ o i has. absurd (no-needs (length (replicate (length (channels_from wires m)) false)) o i has);
         fields = no-ports-fields 0;
         numbers = no-ports-numbers;
       })
   fits m own Tray machine body built =
-      let tray = tray-seat design request (is-routed given) m body.0 body.1 in
-      let seat = tray.seat in
-      let base = first_tray design.circuit listed + tray.place in
+      let tray = tray-at design request (is-routed given) m body.0 body.1 in
       subst (λ (t : Machine). IsFitting wires m (kind_of t)) (sym built)
       (record {
-        ins = sym (ap length seat.into ∙ tray-takes design listed hub (is-routed given) base (omega arith) seat.known);
-        outs = sym (ap length seat.from ∙ tray-gives-none design listed hub (is-routed given) base (omega arith) seat.known);
+        ins = sym (tray-takes wires m (value_at design.circuit.outs tray.port) tray.takes (is-routed given).once);
+        outs = sym (tray-gives-none wires m (value_at design.circuit.outs tray.port) tray.takes);
         needs = λ o i has. absurd (omega (arith, has.1));
         fields = no-ports-fields 1;
         numbers = no-ports-numbers;

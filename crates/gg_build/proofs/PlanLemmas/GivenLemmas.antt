@@ -1,5 +1,4 @@
--- What is given with a plan: its request has no fault, its bridges' entries fit, and its channels are its routed links, at the numbers of
--- the plan's machines.
+-- What is given with a plan: its request has no fault, its bridges' entries fit, and its channels are its routed links.
 use Rattle.std.proofs.Common.{◌≡◌, ℕ, ◌<◌, None, length, take, sym, ap, subst, arith}
 use Rattle.gg_flat.specs.declared.memory.Memory.{Memory}
 use Rattle.gg_flat_tree.specs.Tree.{path_at}
@@ -11,12 +10,11 @@ use Rattle.gg_cut_plan.specs.declared.plan.Body.TheVariants.{Memory as Listing}
 use Rattle.gg_cut_plan.specs.declared.plan.Plan.{Plan}
 use Rattle.gg_cut_plan.specs.Bridges.{Models}
 use Rattle.gg_cut_plan.specs.Fault.{first_fault}
-use Rattle.gg_cut_plan.specs.Seated.{output_count}
+use Rattle.gg_cut_plan.specs.Ports.{output_count}
 use Rattle.gg_cut_plan.specs.Plan.{wire_at as link_at, IsPlan}
 use Rattle.gg_cut_plan.proofs.WholeFaultLemmas.{faultless-bridges, faultless-others}
 use Rattle.gg_cut_reference.specs.inside.Fitting.{AreFitting}
 use Rattle.gg_cut_reference.proofs.FittingLemmas.FittingLemmas.{all-fit}
-use Rattle.gg_cut_reference.proofs.FittingLemmas.SeatedLemmas.{seat-known}
 use Rattle.gg_cut_split.specs.inside.Apart.{AreApart, AreFew}
 use Rattle.gg_cut_split.proofs.ClosedLemmas.FaultlessLemmas.{capacity-is, faultless-apart, faultless-few, range-free}
 use Rattle.gg_cut_routes.specs.inside.Routes.{AreRoutes}
@@ -24,16 +22,14 @@ use Rattle.gg_cut_routes.proofs.RoutedLemmas.{plan-routed}
 use Rattle.gg_cut_reference.specs.inside.Whole.{RunsWhole}
 use Rattle.gg_cut_reference.specs.whole.Whole.{CanBridge}
 use Rattle.gg_cut_plan.specs.Channels.{wire}
-use Rattle.gg_cut_reference.proofs.FittingLemmas.LowLemmas.{wire-seated}
 use Rattle.gg_cut_reference.proofs.WholeLemmas.RunLemmas.{whole-runs}
 use Rattle.gg_build.specs.plan.Built.{machine_in, nameless}
 use Rattle.gg_build.specs.inside.Given.{Given, IsBodyAt, cut_of}
 use Rattle.gg_build.proofs.PlanLemmas.LinkLemmas.{AreLinks}
 use Rattle.gg_build.proofs.PlanLemmas.MemoryPartLemmas.{IsMemoryPart, memory-part}
-use Rattle.gg_build.proofs.PlanLemmas.SeatLemmas.{are, seated-many}
 
 module _ (design : Ordered) (request : Request) (models : Models) (can : CanBridge design request models) where
-  open cut_of design request use {listed, hub, bridges as b, base, wires}
+  open cut_of design request use {listed, hub, wires}
 
   -- no fault, its bridges aside
   pub faultless : first_fault design request ≡ None
@@ -43,7 +39,7 @@ module _ (design : Ordered) (request : Request) (models : Models) (can : CanBrid
   pub entries-fit : AreFitting design.circuit (take (output_count design) design.circuit.outs) models request.bridges
   entries-fit = all-fit design.circuit (take (output_count design) design.circuit.outs) models request.bridges (faultless-bridges design models request can.faultless)
 
-  pub routed : AreRoutes design listed hub
+  pub routed : AreRoutes design listed request.bridges hub
   routed = plan-routed design request can.design_is can.keeps faultless
 
   pub links-of : (default : ℕ) (plan : Plan) → 0 < default → IsPlan design request models default plan → AreLinks plan wires
@@ -57,13 +53,7 @@ module _ (design : Ordered) (request : Request) (models : Models) (can : CanBrid
             (capacity-is (λ n. 0 < n) (λ n more few. more) request.capacity default (path_at design.circuit.paths (link_at wires c).signal) (range-free design request faultless) some);
         ins = λ m lt. (planned.machine m nameless lt).ins;
         outs = λ m lt. (planned.machine m nameless lt).outs;
-        ends = λ c lt.
-            let low : c < length base = omega (arith, lt, seated-many b base) in
-            let at = wire-seated b base c low in
-            let ends = routed.ends c (wire 0 0 0) low in
-            let giver = seat-known b (are design request routed) (link_at base c).producer ends.0 in
-            let taker = seat-known b (are design request routed) (link_at base c).consumer ends.1 in
-            (omega (arith, ap (λ w. w.producer) at, giver, planned.machine_total), omega (arith, ap (λ w. w.consumer) at, taker, planned.machine_total));
+        ends = λ c lt. let ends = routed.ends c (wire 0 0 0) lt in (omega (arith, ends.0, planned.machine_total), omega (arith, ends.1, planned.machine_total));
       }
 
 -- ---- a given plan
@@ -81,7 +71,7 @@ module _ (given : Given) where
   pub are-few : AreFew design.circuit design.tree request
   are-few = faultless-few design request no-fault
 
-  pub is-routed : AreRoutes design listed hub
+  pub is-routed : AreRoutes design listed request.bridges hub
   is-routed = routed design request models can
 
   pub are-links : AreLinks plan wires

@@ -17,7 +17,7 @@ use Rattle.gg_cut_plan.specs.declared.plan.Channel.{Channel}
 use Rattle.gg_cut_plan.specs.declared.plan.Plan.{Plan}
 use Rattle.gg_cut_plan.specs.Machines.{first_memory, first_source}
 use Rattle.gg_cut_plan.specs.Bridges.{Models}
-use Rattle.gg_cut_plan.specs.Seated.{machine_end}
+use Rattle.gg_cut_plan.specs.Ports.{machine_end}
 use Rattle.gg_cut_plan.specs.Plan.{wire_at, channels_to, channels_from}
 use Rattle.gg_cut_reference.specs.text.CheckText.{AreChannelNeeds}
 use Rattle.gg_cut_reference.proofs.TextLemmas.PlanLemmas.{channel-needs}

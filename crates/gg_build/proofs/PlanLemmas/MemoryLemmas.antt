@@ -20,13 +20,10 @@ use Rattle.gg_part.specs.declared.part.Part.{Part}
 use Rattle.gg_part.proofs.FormedLemmas.{IsWellFormed-part}
 use Rattle.gg_cut_plan.specs.declared.plan.Body.TheVariants.{Memory as Listing}
 use Rattle.gg_cut_plan.specs.declared.wires.Wire.{Wire}
-use Rattle.gg_cut_plan.specs.Machines.{first_memory, first_source, first_tray}
-use Rattle.gg_cut_plan.specs.Channels.{wire, flattened, numbered, field_wires, port_wires, reader_wires, source_wires, tray_wires, wires_of, writer_wires}
+use Rattle.gg_cut_plan.specs.Machines.{first_memory}
+use Rattle.gg_cut_plan.specs.Channels.{wire, flattened, numbered, field_wires, port_wires, input_wires, output_wires, reader_wires, wires_of, writer_wires}
 use Rattle.gg_cut_plan.specs.Direct.{is_gone, route}
-use Rattle.gg_cut_plan.specs.Seated.{seat_of, seated_wire}
-use Rattle.gg_cut_plan.specs.Plan.{wire_at, channels_to, signals_of}
-use Rattle.gg_cut_reference.proofs.FittingLemmas.LowLemmas.{signals-alike}
-use Rattle.gg_cut_split.proofs.ClosedLemmas.ListLemmas.{AllPairs-map}
+use Rattle.gg_cut_plan.specs.Plan.{wire_at, channels_to}
 use Rattle.gg_cut_split.proofs.ClosedLemmas.KindLemmas.{outside_memory}
 use Rattle.gg_cut_routes.proofs.RouteLemmas.{IsBase, port-stays, route-consumer, route-signal}
 use Rattle.gg_cut_routes.proofs.RoutedLemmas.{routed-base}
@@ -40,7 +37,6 @@ use Rattle.gg_build.specs.inside.Given.{Given, IsBodyAt, cut_of}
 use Rattle.gg_build.proofs.PlanLemmas.GivenLemmas.{are-links, is-apart, is-routed, memory-at, no-fault}
 use Rattle.gg_build.proofs.PlanLemmas.NumberLemmas.{numbers-once, place-back}
 use Rattle.gg_build.proofs.PlanLemmas.ListedLemmas.{at-in, taken-at}
-use Rattle.gg_build.proofs.PlanLemmas.SeatLemmas.{IsSeatOf, low-seat}
 use Rattle.gg_build.proofs.PlanLemmas.SideLemmas.{link-one}
 use Rattle.gg_build.proofs.PlanLemmas.PortLemmas.{IsFitPort, ports-fit}
 use Rattle.gg_build.proofs.PlanLemmas.FitLemmas.{ins-count}
@@ -56,7 +52,7 @@ use Rattle.gg_part.specs.Part.{in_whole}
 
 module _ (given : Given) (m : ℕ) (part : Part) (body : IsBodyAt given m (Listing part)) (begins : Start) (machine : Machine) (stands : IsMemoryOf begins part machine) where
   open given use {design, request, plan, can, design.{circuit, tree}}
-  open cut_of design request use {listed, hub, bridges, base as cut_wires, wires}
+  open cut_of design request use {listed, hub, bridges as b, wires}
 
   abbrev piece : FlatCircuit
   piece = stands.alone.piece
@@ -67,14 +63,8 @@ module _ (given : Given) (m : ℕ) (part : Part) (body : IsBodyAt given m (Listi
   base : IsBase hub
   base = routed-base design request can.design_is can.keeps (no-fault given)
 
-  seat : IsSeatOf design request m m
-  seat = low-seat design request (is-routed given) m body.1
-
-  wires-once : AllPairs (λ (v w : Wire). v.signal ≢ w.signal) wires
-  wires-once = AllPairs-map (λ (v w : Wire). v.signal ≢ w.signal) (seated_wire bridges) cut_wires (is-routed given).once
-
-  cut-ins : map (value_at part.globals) part.piece.ins ≡ map (λ c. (wire_at wires c).signal) (channels_to wires m)
-  cut-ins = body.2.ins ∙ sym (ap (signals_of wires) seat.into ∙ signals-alike bridges cut_wires (channels_to cut_wires m))
+  once : AllPairs (λ (v w : Wire). v.signal ≢ w.signal) wires
+  once = (is-routed given).once
 
   -- ---- fields
 
@@ -82,7 +72,7 @@ module _ (given : Given) (m : ℕ) (part : Part) (body : IsBodyAt given m (Listi
   in-count = sym (length-map piece.ins (value_at stands.alone.globals)) ∙ ap length stands.ins
 
   channel-count : length part.piece.ins ≡ length (channels_to wires m)
-  channel-count = ins-count design listed hub m part body.2 ∙ sym (ap length seat.into)
+  channel-count = ins-count design listed hub m part body.2
 
   -- field x of the memory is in-signal x of the part
   in-at : (x : ℕ) → x < length piece.ins → value_at stands.alone.globals x ≡ value_at part.piece.ins x
@@ -96,7 +86,7 @@ module _ (given : Given) (m : ℕ) (part : Part) (body : IsBodyAt given m (Listi
       let inside : x < length part.piece.ins = omega (arith, lt, in-count) in
       ap (value_at part.globals) (in-at x lt)
       ∙ sym (get_or-map (value_at part.globals) part.piece.ins x 0 0 inside)
-      ∙ ap (λ (l : List ℕ). value_at l x) cut-ins
+      ∙ ap (λ (l : List ℕ). value_at l x) body.2.ins
       ∙ get_or-map (λ c. (wire_at wires c).signal) (channels_to wires m) x 0 0 (omega (arith, inside, channel-count))
 
   -- the channel of a field is at the in with the field's number
@@ -105,14 +95,14 @@ module _ (given : Given) (m : ℕ) (part : Part) (body : IsBodyAt given m (Listi
       let inside : x < length (channels_to wires m) = omega (arith, lt, in-count, channel-count) in
       let c = value_at (channels_to wires m) x in
       subst (IsAtIn (wires_of_plan token plan) m x)
-      (sym (ap (channel_of wires) (field-signal x lt) ∙ channel-back wires c wires-once (taken-at wires m x inside).known))
+      (sym (ap (channel_of wires) (field-signal x lt) ∙ channel-back wires c once (taken-at wires m x inside).known))
       (at-in token plan wires (are-links given) m x inside)
 
   field-place : (x c : ℕ) → x < length piece.ins → c < length wires → (wire_at wires c).signal ≡ number x → place_in (channels_to wires m) c ≡ x
   field-place x c lt inside same =
       let low : x < length (channels_to wires m) = omega (arith, lt, in-count, channel-count) in
       let d = value_at (channels_to wires m) x in
-      ap (place_in (channels_to wires m)) (link-one wires c d wires-once inside (taken-at wires m x low).known (same ∙ field-signal x lt))
+      ap (place_in (channels_to wires m)) (link-one wires c d once inside (taken-at wires m x low).known (same ∙ field-signal x lt))
       ∙ place-back (channels_to wires m) x (numbers-once (λ k. (wire_at wires k).consumer == m) (length wires)) low
 
   -- ---- the memory
@@ -234,15 +224,15 @@ module _ (given : Given) (m : ℕ) (part : Part) (body : IsBodyAt given m (Listi
         numbered (field_wires design.circuit design.tree listed.units) (first_memory listed) listed.memories
 
     abbrev trays : List Wire
-    trays = numbered (tray_wires design.circuit design.tree listed) (first_tray design.circuit listed) design.circuit.outs
+    trays = numbered (output_wires design.circuit design.tree listed b) 0 design.circuit.outs
 
     abbrev ports : List Wire
     ports = numbered (port_wires design.tree listed.units) 1 listed.units
 
     abbrev sources : List Wire
-    sources = numbered source_wires (first_source listed) design.circuit.ins
+    sources = numbered (input_wires b) 0 design.circuit.ins
 
-    at-base : IsBefore address enable (wires_of circuit tree listed)
+    at-base : IsBefore address enable (wires_of circuit tree listed request.bridges)
     at-base =
         before-right address enable sources (ports ++ (fields ++ trays))
         (before-right address enable ports (fields ++ trays)
@@ -251,7 +241,7 @@ module _ (given : Given) (m : ℕ) (part : Part) (body : IsBodyAt given m (Listi
         (before-left address enable (flattened (reader_wires outside self) (readers_at circuit k)) (flattened (writer_wires outside self) (writers_at circuit k)) at-readers))))
 
     -- a channel that the memory takes stays
-    stays : (w : Wire) → Contains (wires_of circuit tree listed) w → w.consumer ≡ self → not (is_gone hub w.signal) ≡ true
+    stays : (w : Wire) → Contains (wires_of circuit tree listed request.bridges) w → w.consumer ≡ self → not (is_gone hub w.signal) ≡ true
     stays w has to = ap not (port-stays hub base w has (λ none. omega (arith, to, none, body.0, self-is)))
 
     -- the routed channels of the address and of the enable
@@ -261,18 +251,15 @@ module _ (given : Given) (m : ℕ) (part : Part) (body : IsBodyAt given m (Listi
     abbrev to_enable : Wire
     to_enable = route hub enable
 
-    cut-before : IsBefore to_address to_enable cut_wires
-    cut-before =
-        let all = wires_of circuit tree listed in
-        let b = at-base in
-        let inside = b.within in
-        let lower : b.first < length all = omega (arith, b.less, inside) in
-        let one = stays address (b.first, lower, b.is_first address) refl in
-        let other = stays enable (b.second, inside, b.is_second enable) refl in
-        map-before address enable (route hub) (filter (λ w. not (is_gone hub w.signal)) all) (filter-before address enable (λ w. not (is_gone hub w.signal)) all one other b)
-
-    before : IsBefore (seated_wire bridges to_address) (seated_wire bridges to_enable) wires
-    before = map-before to_address to_enable (seated_wire bridges) cut_wires cut-before
+    before : IsBefore to_address to_enable wires
+    before =
+        let all = wires_of circuit tree listed request.bridges in
+        let at = at-base in
+        let inside = at.within in
+        let lower : at.first < length all = omega (arith, at.less, inside) in
+        let one = stays address (at.first, lower, at.is_first address) refl in
+        let other = stays enable (at.second, inside, at.is_second enable) refl in
+        map-before address enable (route hub) (filter (λ w. not (is_gone hub w.signal)) all) (filter-before address enable (λ w. not (is_gone hub w.signal)) all one other at)
 
     less : reader.addr < reader.en
     less =
@@ -283,8 +270,7 @@ module _ (given : Given) (m : ℕ) (part : Part) (body : IsBodyAt given m (Listi
         let inside = before.within in
         let apart = before.less in
         let lower : c < length wires = omega (arith, apart, inside) in
-        let up = places-up wires m c d apart inside (ap (λ (w : Wire). w.consumer) one ∙ ap (seat_of bridges) (route-consumer hub base address ∙ self-is) ∙ seat.seat)
-        (ap (λ (w : Wire). w.consumer) other ∙ ap (seat_of bridges) (route-consumer hub base enable ∙ self-is) ∙ seat.seat) in
+        let up = places-up wires m c d apart inside (ap (λ (w : Wire). w.consumer) one ∙ route-consumer hub base address ∙ self-is) (ap (λ (w : Wire). w.consumer) other ∙ route-consumer hub base enable ∙ self-is) in
         let first = field-place reader.addr c looks.0 lower (ap (λ (w : Wire). w.signal) one ∙ route-signal hub base address) in
         let second = field-place reader.en d looks.1 inside (ap (λ (w : Wire). w.signal) other ∙ route-signal hub base enable) in
         omega (arith, up, first, second)

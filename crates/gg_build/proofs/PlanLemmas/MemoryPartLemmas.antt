@@ -1,6 +1,6 @@
 -- The part of a listed memory: its memory, whose fields are just its in-signals and its out-signals.
 use Rattle.std.proofs.Common.{◌≡◌, ◌≢◌, ℕ, ◌+◌, ◌-◌, ◌<◌, ◌≤◌, List, [], ◌∷◌, ◌++◌, length, map, get_or, Bool, true, refl, sym, ◌∙◌, ap, ap₂, subst, inl, inr, ◌⊎◌, arith}
-use Rattle.std.specs.Prelude.{All, AllPairs, Contains, ◌==◌, ◌&&◌}
+use Rattle.std.specs.Prelude.{All, AllPairs, Contains, ◌==◌, ◌&&◌, ◌||◌, nat_le}
 use Rattle.std.proofs.lemmas.Bool.{le-leb, lt-ltb}
 use Rattle.std.proofs.lemmas.List.{length-map, get_or-map}
 use Rattle.std.proofs.lemmas.List.Elements.{Contains-append_left, Contains-append_right, Contains-get_or}
@@ -19,9 +19,10 @@ use Rattle.gg_part.specs.Part.{IsMemoryFrom, MemoryBelow, in_whole}
 use Rattle.gg_part.specs.declared.part.Part.{Part}
 use Rattle.gg_cut_plan.specs.declared.wires.Wire.{Wire as Link}
 use Rattle.gg_cut_plan.specs.Listed.{listed_of, first_place, unit_or_hub, memory_or, has_signal, owner_of, owner_of_instance}
-use Rattle.gg_cut_plan.specs.Machines.{first_memory, first_source, is_memory}
+use Rattle.gg_cut_plan.specs.Machines.{first_memory, first_source}
+use Rattle.gg_cut_plan.specs.Ports.{first_bridge}
 use Rattle.gg_cut_plan.specs.Channels.{wire, flattened, reader_wires, writer_wires, wires_of}
-use Rattle.gg_cut_plan.specs.Direct.{is_driven, is_piped, plan_hub}
+use Rattle.gg_cut_plan.specs.Direct.{is_piped, plan_hub}
 use Rattle.gg_cut_plan.specs.Plan.{wire_at as link_at, channels_to, channels_from, signals_of, givens_of, IsInner, MakesBy, Takes, HasMemory, IsCutPart}
 use Rattle.gg_cut_plan.proofs.WireLemmas.{unit-below, unit_or_hub-below}
 use Rattle.gg_cut_split.specs.inside.Apart.{AreApart, AreFew}
@@ -65,14 +66,14 @@ pub record IsMemoryPart (part : Part) (memory : Memory) : Type 0 where
   pub ins_once : AllPairs (λ a b. a ≢ b) part.piece.ins
   pub once : AllPairs (λ a b. a ≢ b) (part.piece.ins ++ part.piece.outs)
 
-module _ (design : Ordered) (request : Request) (m : ℕ) (part : Part) (is : IsDesign design) (keeps : KeepsToTree design.circuit design.tree) (apart : AreApart design.tree (listed_of design.tree request)) (routed : AreRoutes design (listed_of design.tree request) (plan_hub design.circuit design.tree request))
+module _ (design : Ordered) (request : Request) (m : ℕ) (part : Part) (is : IsDesign design) (keeps : KeepsToTree design.circuit design.tree) (apart : AreApart design.tree (listed_of design.tree request)) (routed : AreRoutes design (listed_of design.tree request) request.bridges (plan_hub design.circuit design.tree request))
     (low : first_memory (listed_of design.tree request) ≤ m) (high : m < first_source (listed_of design.tree request)) (cut : IsCutPart design (listed_of design.tree request) (plan_hub design.circuit design.tree request) m part) where
   open design use {circuit, tree}
-  open cut_of design request use {listed, hub, base as links}
+  open cut_of design request use {listed, hub, bridges as b, wires as links}
 
   -- the channels before the routing
   abbrev plain : List Link
-  plain = wires_of circuit tree listed
+  plain = wires_of circuit tree listed request.bridges
 
   abbrev i : ℕ
   i = m - first_memory listed
@@ -81,11 +82,11 @@ module _ (design : Ordered) (request : Request) (m : ℕ) (part : Part) (is : Is
   own = (memory_at tree (value_at listed.memories i)).memory
 
   base : IsBase hub
-  base = plan-base design listed (is_piped circuit request) (is_driven circuit request) request.direct is keeps apart
+  base = plan-base design listed (is_piped circuit request) request.bridges request.direct is keeps apart
 
   -- it is a listed memory, and not the hub
-  number-is-memory : is_memory listed m ≡ true
-  number-is-memory = ap₂ (λ (a b : Bool). a && b) (le-leb (first_memory listed) m low) (lt-ltb m (first_source listed) high)
+  is-quiet : hub.silent m ≡ true
+  is-quiet = ap₂ (λ (a c : Bool). (a && c) || nat_le (first_bridge b) m) (le-leb (first_memory listed) m low) (lt-ltb m (first_source listed) high)
 
   no-hub : m ≢ 0
   no-hub same = omega (arith, same, low)
@@ -136,7 +137,7 @@ module _ (design : Ordered) (request : Request) (m : ℕ) (part : Part) (is : Is
   inner-low : (s : ℕ) → IsInner plain s → owner_of circuit tree listed s < first_memory listed
   inner-low s inner =
       let other = unit_or_hub (first_place (has_signal tree s) listed.units) in
-      let none = ap (memory_or (length listed.units) other) (no-field-place circuit tree listed s (inner-plain circuit tree listed keeps.fitting keeps.scoped apart s inner)) in
+      let none = ap (memory_or (length listed.units) other) (no-field-place circuit tree listed s (inner-plain circuit tree listed request.bridges keeps.fitting keeps.scoped apart s inner)) in
       let below = unit-below (has_signal tree s) listed.units in
       omega (arith, none, below)
 
@@ -150,7 +151,7 @@ module _ (design : Ordered) (request : Request) (m : ℕ) (part : Part) (is : Is
 
   -- the out-signals are the signals of the channels that the machine gives
   outs-are : map (value_at part.globals) part.piece.outs ≡ signals_of links (channels_from links m)
-  outs-are = cut.outs ∙ memory-plain hub base m number-is-memory no-hub
+  outs-are = cut.outs ∙ memory-plain hub base m is-quiet no-hub
 
   ins-once : AllPairs (λ a b. a ≢ b) part.piece.ins
   ins-once =
@@ -225,7 +226,7 @@ module _ (design : Ordered) (request : Request) (m : ℕ) (part : Part) (is : Is
         let rename = renamed_reader (in_whole part.globals part.clocks) in
         let inside : r < length (readers_at circuit own) = omega (arith, lt, ap length readers, length-map memory.readers rename) in
         let at : get_or (readers_at circuit own) r (rename any) ≡ rename (get_or memory.readers r any) = ap (λ (l : List Reader). get_or l r (rename any)) readers ∙ get_or-map rename memory.readers r any (rename any) lt in
-        in-fields circuit tree listed i w there
+        in-fields circuit tree listed request.bridges i w there
         (Contains-append_left from_readers from_writers w
         (flattened-in (reader_wires outside (first_memory listed + i)) (readers_at circuit own) r (rename any) w inside
         (subst (λ (x : Reader). Contains (reader_wires outside (first_memory listed + i) x) w) (sym at) h)))
@@ -235,7 +236,7 @@ module _ (design : Ordered) (request : Request) (m : ℕ) (part : Part) (is : Is
         let rename = renamed_writer (in_whole part.globals part.clocks) in
         let inside : r < length (writers_at circuit own) = omega (arith, lt, ap length writers, length-map memory.writers rename) in
         let at : get_or (writers_at circuit own) r (rename any) ≡ rename (get_or memory.writers r any) = ap (λ (l : List Writer). get_or l r (rename any)) writers ∙ get_or-map rename memory.writers r any (rename any) lt in
-        in-fields circuit tree listed i w there
+        in-fields circuit tree listed request.bridges i w there
         (Contains-append_right from_readers from_writers w
         (flattened-in (writer_wires outside (first_memory listed + i)) (writers_at circuit own) r (rename any) w inside
         (subst (λ (x : Writer). Contains (writer_wires outside (first_memory listed + i) x) w) (sym at) h)))
@@ -244,7 +245,7 @@ module _ (design : Ordered) (request : Request) (m : ℕ) (part : Part) (is : Is
     to-part : (s : ℕ) → s < length part.globals → Contains plain (wire (value_at part.globals s) outside (first_memory listed + i)) → Contains part.piece.ins s
     to-part s lt h =
         in-part s lt (subst (λ (l : List ℕ). Contains l (value_at part.globals s)) (sym (ins-still hub base m no-hub))
-        (subst (λ k. Takes plain k (value_at part.globals s)) number (takes circuit tree listed keeps.fitting keeps.scoped apart (value_at part.globals s) outside (first_memory listed + i) h)))
+        (subst (λ k. Takes plain k (value_at part.globals s)) number (takes circuit tree listed request.bridges keeps.fitting keeps.scoped apart (value_at part.globals s) outside (first_memory listed + i) h)))
 
     looks : All (ReaderAmong part.piece.ins) memory.readers
     looks r any lt =
@@ -267,12 +268,12 @@ module _ (design : Ordered) (request : Request) (m : ℕ) (part : Part) (is : Is
     words : part.piece.outs ≡ map (λ (reader : Reader). reader.word) memory.readers
     words =
         words-back part.globals cut.is.once part.clocks part.piece.outs memory.readers cut.is.outs below.readers
-        (outs-are ∙ words-still hub base m number-is-memory no-hub ∙ memory-gives circuit tree listed m i there number outputs-apart ∙ ap (map (λ (reader : Reader). reader.word)) readers)
+        (outs-are ∙ words-still hub base m is-quiet no-hub ∙ memory-gives circuit tree listed request.bridges m i there number outputs-apart ∙ ap (map (λ (reader : Reader). reader.word)) readers)
 
     few : AreFew circuit tree request → length memory.readers + length memory.writers ≤ 16384
     few are =
         let channels = are.channels in
-        let ports = memory-few circuit tree listed (is_piped circuit request) (is_driven circuit request) request.direct base i there in
+        let ports = memory-few circuit tree listed (is_piped circuit request) request.bridges request.direct base i there in
         let reads : length (readers_at circuit own) ≡ length memory.readers = ap length readers ∙ length-map memory.readers (renamed_reader (in_whole part.globals part.clocks)) in
         let writes : length (writers_at circuit own) ≡ length memory.writers = ap length writers ∙ length-map memory.writers (renamed_writer (in_whole part.globals part.clocks)) in
         omega (arith, channels, ports, reads, writes)

@@ -9,12 +9,12 @@ use Rattle.gg_flat.specs.Run.{Start}
 use Rattle.gg_order.specs.Design.{Ordered}
 use Rattle.gg_order.proofs.NeedsLemmas.ReachLemmas.{Reaches-itself, Reaches-on}
 use Rattle.gg_part.specs.declared.part.Part.{Part}
+use Rattle.gg_partfile.specs.declared.request.BridgeEntry.{BridgeEntry}
 use Rattle.gg_cut_plan.specs.declared.listed.Listed.{Listed}
 use Rattle.gg_cut_plan.specs.declared.plan.Body.{Body}
 use Rattle.gg_cut_plan.specs.declared.plan.Body.TheVariants.{Cut, Memory, Source, Tray, Bridge}
 use Rattle.gg_cut_plan.specs.declared.wires.Wire.{Wire as Link}
 use Rattle.gg_cut_plan.specs.Channels.{wire}
-use Rattle.gg_cut_plan.specs.Seated.{Bridges, seated}
 use Rattle.gg_cut_plan.specs.Direct.{Hub, routes}
 use Rattle.gg_cut_plan.specs.Plan.{wire_at as link_at, channels_to, channels_from, signals_of, givens_of, IsCutPart}
 use Rattle.gg_cut_routes.specs.inside.Routes.{AreRoutes}
@@ -22,14 +22,12 @@ use Rattle.gg_bridge.specs.Turned.{turned}
 use Rattle.gg_memunit.specs.MemoryUnit.{needs_of}
 use Rattle.gg_node.specs.Machine.{Machine, needs_at}
 use Rattle.gg_net.specs.Network.{Kind, kind_of}
-use Rattle.gg_cut_reference.proofs.FittingLemmas.LowLemmas.{givens-alike, signals-alike}
 use Rattle.gg_build.specs.plan.Built.{IsUnitOf, IsMemoryOf, IsBuilt}
 use Rattle.std.proofs.lemmas.List.Elements.{Contains-get_or}
 use Rattle.gg_build.specs.inside.Given.{Given, IsBodyAt, cut_of}
 use Rattle.gg_build.proofs.PlanLemmas.GivenLemmas.{is-routed}
 use Rattle.gg_build.proofs.PlanLemmas.FitLemmas.{ins-count, outs-count}
 use Rattle.gg_build.proofs.PlanLemmas.ListedLemmas.{given-at, taken-at}
-use Rattle.gg_build.proofs.PlanLemmas.SeatLemmas.{low-seat}
 use Rattle.gg_build.proofs.PlanLemmas.PortLemmas.{needs-there, no-needs, needs-count, piece-needs}
 use Rattle.gg_build.proofs.PlanLemmas.RankLemmas.{reach-in}
 
@@ -46,7 +44,7 @@ pub record HasNeeds (circuit : FlatCircuit) (links : List Link) (m : ℕ) (kind 
   pub reach : (o i : ℕ) → Contains (needs_at kind.needs o) i → ReachesIn circuit links m o i
   pub apart : (o i : ℕ) → Contains (needs_at kind.needs o) i → DiffersFrom links m o i
 
-module _ (design : Ordered) (listed : Listed) (hub : Hub) (routed : AreRoutes design listed hub) (m : ℕ) (part : Part) (cut : IsCutPart design listed hub m part) where
+module _ (design : Ordered) (listed : Listed) (entries : List BridgeEntry) (hub : Hub) (routed : AreRoutes design listed entries hub) (m : ℕ) (part : Part) (cut : IsCutPart design listed hub m part) where
   -- no machine takes what it gives
   part-differs : (o i : ℕ) → o < length part.piece.outs → i < length part.piece.ins → DiffersFrom (routes hub) m o i
   part-differs o i low less same =
@@ -112,16 +110,6 @@ module _ (design : Ordered) (listed : Listed) (hub : Hub) (routed : AreRoutes de
             part-differs o i (omega (arith, low, own_outs)) (omega (arith, read.within, own_ins));
       })
 
--- the same of a machine that lists the same channels
-needs-by : (circuit : FlatCircuit) (b : Bridges) (links : List Link) (m n : ℕ) (kind : Kind) → channels_to (seated b links) m ≡ channels_to links n → channels_from (seated b links) m ≡ channels_from links n → HasNeeds circuit links n kind → HasNeeds circuit (seated b links) m kind
-needs-by circuit b links m n kind into from needs =
-    let ins : signals_of (seated b links) (channels_to (seated b links) m) ≡ signals_of links (channels_to links n) = ap (signals_of (seated b links)) into ∙ signals-alike b links (channels_to links n) in
-    let outs : givens_of (seated b links) (channels_from (seated b links) m) ≡ givens_of links (channels_from links n) = ap (givens_of (seated b links)) from ∙ givens-alike b links (channels_from links n) in
-    record {
-      reach = λ o i has. subst (λ (s : ℕ). Reaches circuit s (value_at (signals_of (seated b links) (channels_to (seated b links) m)) i)) (ap (λ (l : List ℕ). value_at l o) (sym outs)) (subst (λ (s : ℕ). Reaches circuit (value_at (givens_of links (channels_from links n)) o) s) (ap (λ (l : List ℕ). value_at l i) (sym ins)) (needs.reach o i has));
-      apart = λ o i has same. needs.apart o i has (ap (λ (l : List ℕ). value_at l o) (sym outs) ∙ same ∙ ap (λ (l : List ℕ). value_at l i) ins);
-    }
-
 none-needed : (circuit : FlatCircuit) (links : List Link) (m outs : ℕ) (kind : Kind) → kind.needs ≡ replicate outs [] → HasNeeds circuit links m kind
 none-needed circuit links m outs kind is =
     let none : (o i : ℕ) → Contains (needs_at kind.needs o) i → ⊥ = λ o i has. no-needs outs o i (subst (λ (l : List (List ℕ)). Contains (needs_at l o) i) is has) in
@@ -129,16 +117,12 @@ none-needed circuit links m outs kind is =
 
 module _ (given : Given) where
   open given use {design, request, columns}
-  open cut_of design request use {listed, hub, bridges as b, wires}
+  open cut_of design request use {listed, hub, wires}
 
   -- this holds for each machine of the network
   pub has-needs : (outs m : ℕ) (own : Start) (body : Body) (machine : Machine) → IsBodyAt given m body → IsBuilt columns outs own body machine → HasNeeds design.circuit wires m (kind_of machine)
-  has-needs outs m own (Cut part) machine body built =
-      let seat = low-seat design request (is-routed given) m (omega (arith, body.0)) in
-      needs-by design.circuit b (routes hub) m m (kind_of machine) seat.into seat.from (unit-needs design listed hub (is-routed given) m part body.1 own machine built)
-  has-needs outs m own (Memory part) machine body built =
-      let seat = low-seat design request (is-routed given) m body.1 in
-      needs-by design.circuit b (routes hub) m m (kind_of machine) seat.into seat.from (memory-needs design listed hub (is-routed given) m part body.2 own machine built)
+  has-needs outs m own (Cut part) machine body built = unit-needs design listed request.bridges hub (is-routed given) m part body.1 own machine built
+  has-needs outs m own (Memory part) machine body built = memory-needs design listed request.bridges hub (is-routed given) m part body.2 own machine built
   has-needs outs m own (Source place) machine body built = none-needed design.circuit wires m (length (replicate outs false)) (kind_of machine) (ap (λ (t : Machine). t.needs) built)
   has-needs outs m own Tray machine body built = none-needed design.circuit wires m 0 (kind_of machine) (ap (λ (t : Machine). t.needs) built)
   has-needs outs m own (Bridge bridge) machine body built =

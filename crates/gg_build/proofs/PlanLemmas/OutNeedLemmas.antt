@@ -10,10 +10,7 @@ use Rattle.gg_cut_plan.specs.declared.listed.Listed.{Listed}
 use Rattle.gg_cut_plan.specs.declared.plan.Body.{Body}
 use Rattle.gg_cut_plan.specs.declared.plan.Body.TheVariants.{Cut, Memory, Source, Tray, Bridge}
 use Rattle.gg_cut_plan.specs.declared.wires.Wire.{Wire}
-use Rattle.gg_cut_plan.specs.Machines.{first_source}
-use Rattle.gg_cut_plan.specs.Direct.{Hub, routes}
-use Rattle.gg_cut_plan.specs.Seated.{plan_wires}
-use Rattle.gg_cut_reference.proofs.FittingLemmas.LowLemmas.{wire-given}
+use Rattle.gg_cut_plan.specs.Direct.{Hub, plan_wires, routes}
 use Rattle.gg_bridge.specs.Turned.{turned}
 use Rattle.gg_cut_plan.specs.Plan.{wire_at, channels_to, channels_from, AreNeedsOf, IsCutPart, NeedsIn}
 use Rattle.gg_cut_split.proofs.ClosedLemmas.ListLemmas.{pairs-nil}
@@ -23,9 +20,7 @@ use Rattle.gg_net.specs.Network.{Kind, kind_of}
 use Rattle.gg_build.specs.plan.Built.{place_in, IsBuilt, IsMemoryOf, IsUnitOf}
 use Rattle.gg_build.proofs.PlanLemmas.NumberLemmas.{numbers-once, place-back}
 use Rattle.gg_build.specs.inside.Given.{Given, IsBodyAt, cut_of}
-use Rattle.gg_build.proofs.PlanLemmas.GivenLemmas.{is-routed}
-use Rattle.gg_build.proofs.PlanLemmas.SeatLemmas.{IsSeatOf, low-seat}
-use Rattle.gg_build.proofs.PlanLemmas.ListedLemmas.{IsGivenBy, given-in, given-is, given-placed}
+use Rattle.gg_build.proofs.PlanLemmas.ListedLemmas.{IsGivenBy, given-placed}
 use Rattle.gg_build.proofs.PlanLemmas.FitLemmas.{ins-count, outs-count}
 use Rattle.gg_build.proofs.PlanLemmas.AscendingLemmas.{AreMadeOf}
 use Rattle.gg_build.proofs.PlanLemmas.ReachLemmas.{AreReached}
@@ -93,49 +88,27 @@ source-needs (suc outs) (suc o) = source-needs outs o
 
 -- ---- all machines
 
--- the same of a machine that lists the same channels
-needs-by : (one other : List Wire) (m c : ℕ) (needs : List ℕ) (kind : Kind) → channels_to one m ≡ channels_to other m → channels_from one m ≡ channels_from other m → HasOutNeeds other m c needs kind → HasOutNeeds one m c needs kind
-needs-by one other m c needs kind into from has =
-    record {
-      up = subst (λ (l : List ℕ). AllPairs (λ a b. a < b) (needs_at kind.needs (place_in l c))) (sym from) has.up;
-      made = subst (λ (l : List ℕ). AreMadeOf (place_in l) needs (needs_at kind.needs (place_in (channels_from one m) c))) (sym into)
-          (subst (λ (l : List ℕ). AreMadeOf (place_in (channels_to other m)) needs (needs_at kind.needs (place_in l c))) (sym from) has.made);
-    }
-
 module _ (given : Given) (m c : ℕ) (gives : IsGivenBy (plan_wires given.design.circuit given.design.tree given.request) m c) where
   open given use {design, request}
-  open cut_of design request use {listed, hub, bridges as b, base, wires}
+  open cut_of design request use {listed, hub, wires}
 
   abbrev o : ℕ
-  o = place_in (channels_from base m) c
+  o = place_in (channels_from wires m) c
 
-  -- a machine with a piece gives the channel in the cut
-  module _ (high : m < first_source listed) where
-    seat : IsSeatOf design request m m
-    seat = low-seat design request (is-routed given) m high
+  -- a machine with a piece
+  unit-out-needs : (part : Part) (cut : IsCutPart design listed hub m part) (own : Start) (machine : Machine) → IsUnitOf own part machine → (channels needs : List ℕ) → channels ≡ channels_to wires m
+      → ((out : ℕ) → out < length part.globals → value_at part.globals out ≡ (wire_at wires c).given → AreNeedsOf part channels out needs) → HasOutNeeds wires m c needs (kind_of machine)
+  unit-out-needs part cut own machine unit channels needs same are =
+      let exact = unit.exact.each o (out-low design listed hub m part cut c gives) in
+      subst (λ (t : Machine). HasOutNeeds wires m c needs (kind_of t)) (sym unit.is)
+      (record { up = exact.ascending; made = part-made design listed hub m part cut c gives channels needs (needs_at unit.needs o) same are (record { ascending = exact.ascending; exact = exact.exact }) })
 
-    cut-given : IsGivenBy base m c
-    cut-given = given-is base m c (subst (λ (l : List ℕ). Contains l c) seat.from (given-in wires m c gives))
-
-    moved : (needs : List ℕ) (kind : Kind) → HasOutNeeds base m c needs kind → HasOutNeeds wires m c needs kind
-    moved needs kind has = needs-by wires base m c needs kind seat.into seat.from has
-
-    cut-signal : (wire_at wires c).given ≡ (wire_at base c).given
-    cut-signal = wire-given b base c
-
-    unit-out-needs : (part : Part) (cut : IsCutPart design listed hub m part) (own : Start) (machine : Machine) → IsUnitOf own part machine → (channels needs : List ℕ) → channels ≡ channels_to base m
-        → ((out : ℕ) → out < length part.globals → value_at part.globals out ≡ (wire_at base c).given → AreNeedsOf part channels out needs) → HasOutNeeds base m c needs (kind_of machine)
-    unit-out-needs part cut own machine unit channels needs same are =
-        let exact = unit.exact.each o (out-low design listed hub m part cut c cut-given) in
-        subst (λ (t : Machine). HasOutNeeds base m c needs (kind_of t)) (sym unit.is)
-        (record { up = exact.ascending; made = part-made design listed hub m part cut c cut-given channels needs (needs_at unit.needs o) same are (record { ascending = exact.ascending; exact = exact.exact }) })
-
-    memory-out-needs : (part : Part) (body : IsBodyAt given m (Memory part)) (own : Start) (machine : Machine) → IsMemoryOf own part machine → (channels needs : List ℕ) → channels ≡ channels_to base m
-        → ((out : ℕ) → out < length part.globals → value_at part.globals out ≡ (wire_at base c).given → AreNeedsOf part channels out needs) → HasOutNeeds base m c needs (kind_of machine)
-    memory-out-needs part body own machine stands channels needs same are =
-        let exact = memory-needs given m part body own machine stands o (out-low design listed hub m part body.2 c cut-given) in
-        subst (λ (t : Machine). HasOutNeeds base m c needs (kind_of t)) (sym stands.is)
-        (record { up = exact.ascending; made = part-made design listed hub m part body.2 c cut-given channels needs (needs_at (needs_of stands.alone.piece.memories) o) same are exact })
+  memory-out-needs : (part : Part) (body : IsBodyAt given m (Memory part)) (own : Start) (machine : Machine) → IsMemoryOf own part machine → (channels needs : List ℕ) → channels ≡ channels_to wires m
+      → ((out : ℕ) → out < length part.globals → value_at part.globals out ≡ (wire_at wires c).given → AreNeedsOf part channels out needs) → HasOutNeeds wires m c needs (kind_of machine)
+  memory-out-needs part body own machine stands channels needs same are =
+      let exact = memory-needs given m part body own machine stands o (out-low design listed hub m part body.2 c gives) in
+      subst (λ (t : Machine). HasOutNeeds wires m c needs (kind_of t)) (sym stands.is)
+      (record { up = exact.ascending; made = part-made design listed hub m part body.2 c gives channels needs (needs_at (needs_of stands.alone.piece.memories) o) same are exact })
 
   -- a machine whose outs need nothing
   none-needed : (outs : ℕ) (needs : List ℕ) (kind : Kind) → kind.needs ≡ replicate outs [] → needs ≡ [] → HasOutNeeds wires m c needs kind
@@ -146,12 +119,8 @@ module _ (given : Given) (m c : ℕ) (gives : IsGivenBy (plan_wires given.design
 
   pub out-needs : (columns : List (List ℕ)) (outs : ℕ) (own : Start) (body : Body) (machine : Machine) (channels needs : List ℕ) → IsBodyAt given m body → IsBuilt columns outs own body machine
       → channels ≡ channels_to wires m → NeedsIn body channels (wire_at wires c).given needs → HasOutNeeds wires m c needs (kind_of machine)
-  out-needs columns outs own (Cut part) machine channels needs body built same are =
-      let high : m < first_source listed = omega (arith, body.0) in
-      moved high needs (kind_of machine) (unit-out-needs high part body.1 own machine built channels needs (same ∙ (seat high).into) (λ out lt e. are out lt (e ∙ sym (cut-signal high))))
-  out-needs columns outs own (Memory part) machine channels needs body built same are =
-      let high = body.1 in
-      moved high needs (kind_of machine) (memory-out-needs high part body own machine built channels needs (same ∙ (seat high).into) (λ out lt e. are out lt (e ∙ sym (cut-signal high))))
+  out-needs columns outs own (Cut part) machine channels needs body built same are = unit-out-needs part body.1 own machine built channels needs same are
+  out-needs columns outs own (Memory part) machine channels needs body built same are = memory-out-needs part body own machine built channels needs same are
   out-needs columns outs own (Source place) machine channels needs body built same none = none-needed (length (replicate outs false)) needs (kind_of machine) (ap (λ (t : Machine). t.needs) built) none
   out-needs columns outs own Tray machine channels needs body built same none = none-needed 0 needs (kind_of machine) (ap (λ (t : Machine). t.needs) built) none
   out-needs columns outs own (Bridge bridge) machine channels needs body built same none = none-needed (length (turned bridge.model bridge.ins bridge.outs).outs) needs (kind_of machine) (ap (λ (t : Machine). t.needs) built) none

@@ -1,12 +1,8 @@
 -- The network of a plan: its channels are listed, it is wired, and it has no ring.
-use Rattle.std.proofs.Common.{ℕ, ◌<◌, ◌≤◌, List, length, map, sym, ◌∙◌, ap, subst, arith}
+use Rattle.std.proofs.Common.{ℕ, ◌<◌, ◌≤◌, List, [], length, map, sym, ◌∙◌, ap, subst, arith}
 use Rattle.std.specs.Prelude.{◌==◌}
 use Rattle.gg_flat.specs.Line.{value_at}
 use Rattle.gg_flat.specs.Run.{Start}
-use Rattle.gg_cut_plan.specs.declared.wires.Wire.{Wire as Link}
-use Rattle.gg_cut_plan.specs.Seated.{seated_wire}
-use Rattle.gg_flat.specs.Reads.{Reaches}
-use Rattle.std.proofs.lemmas.List.Elements.{All-map}
 use Rattle.gg_cut_plan.specs.Plan.{wire_at as link_at}
 use Rattle.gg_cut_plan.proofs.WireLemmas.{all-plain}
 use Rattle.gg_cut_plan.proofs.RangeLemmas.{filter-few}
@@ -18,7 +14,6 @@ use Rattle.gg_build.specs.plan.Built.{machine_in, wires_of_plan, AreBuilt, plan_
 use Rattle.gg_build.specs.inside.Built.{IsListedAt}
 use Rattle.gg_build.specs.inside.Given.{Given, cut_of}
 use Rattle.gg_build.proofs.PlanLemmas.GivenLemmas.{are-few, are-links, body-at}
-use Rattle.gg_build.proofs.PlanLemmas.SeatLemmas.{seated-many}
 use Rattle.gg_build.proofs.PlanLemmas.ListedLemmas.{at-in, at-out}
 use Rattle.gg_build.proofs.PlanLemmas.WiredLemmas.{AreFitting, wired}
 use Rattle.gg_build.proofs.PlanLemmas.FitLemmas.{kind-is, fitting}
@@ -28,7 +23,7 @@ use Rattle.gg_build.proofs.PlanLemmas.RingLemmas.{no-ring}
 
 module _ (given : Given) (token : ℕ → ℕ) (starts : Body → Start) (machines : List Machine) (built : AreBuilt given.plan starts given.columns machines) where
   open given use {design, request, plan, n, can}
-  open cut_of design request use {listed, hub, bridges as b, base, wires}
+  open cut_of design request use {listed, hub, wires}
 
   pub fit : AreFitting wires (length plan.machines) (map kind_of machines)
   fit = fitting given starts machines built
@@ -37,7 +32,7 @@ module _ (given : Given) (token : ℕ → ℕ) (starts : Body → Start) (machin
   plan-wired = wired token plan wires (map kind_of machines) n (are-links given) fit
 
   pub few : length wires ≤ 16384
-  few = let channels = (are-few given).channels in omega (arith, channels, seated-many b base)
+  few = let channels = (are-few given).channels in omega (arith, channels)
 
   pub plan-listed : (m : ℕ) → m < length plan.machines → IsListedAt token plan m (kind_at (map kind_of machines) m)
   plan-listed m lt =
@@ -63,5 +58,5 @@ module _ (given : Given) (token : ℕ → ℕ) (starts : Body → Start) (machin
   pub plan-no-ring : HasNoRing (plan_frame token plan machines n)
   plan-no-ring =
       let ordered = can.design_is.ordered in
-      let reached = All-map (λ (w : Link). Reaches design.circuit w.signal w.given) (seated_wire b) base (routes-reach hub design.order ordered (all-plain design.circuit design.tree listed)) in
+      let reached = routes-reach hub design.order ordered (all-plain design.circuit design.tree listed request.bridges) in
       no-ring token plan wires (map kind_of machines) n design.circuit design.order ordered (are-links given) reached needs

@@ -20,7 +20,7 @@ use Rattle.gg_cut_plan.specs.declared.plan.Machine as planned
 use Rattle.gg_cut_plan.specs.Bridges.{model_of}
 use Rattle.gg_cut_plan.specs.Listed.{first_place}
 use Rattle.gg_cut_plan.specs.Plan.{entry_at}
-use Rattle.gg_cut_plan.specs.Seated.{first_bridge}
+use Rattle.gg_cut_plan.specs.Ports.{first_bridge}
 use Rattle.gg_cut_plan.proofs.PathLemmas.{first_place-Some}
 use Rattle.gg_cut_reference.proofs.FittingLemmas.OpenLemmas.{ins-count}
 use Rattle.gg_cut_reference.specs.Links.{pipes_of, taken_as}

@@ -9,16 +9,14 @@ use Rattle.gg_cut_plan.specs.Solves.{AreRows, columns_of, stream}
 use Rattle.gg_cut_reference.specs.Links.{taken_as}
 use Rattle.gg_cut_reference.specs.Made.{plan_reference}
 use Rattle.gg_cut_reference.specs.inside.Follows.{given_column}
-use Rattle.gg_cut_reference.proofs.FittingLemmas.LowLemmas.{wire-signal}
 use Rattle.gg_cut_reference.proofs.PlanLemmas.{plan-kept, rows-given, rows-taken}
 use Rattle.gg_build.specs.inside.Given.{Given, cut_of, run_of}
 use Rattle.gg_build.proofs.PlanLemmas.GivenLemmas.{is-routed, no-fault, runs-whole}
 use Rattle.gg_build.proofs.PlanLemmas.RowLemmas.{front-columns, reference-many}
-use Rattle.gg_build.proofs.PlanLemmas.SeatLemmas.{seated-many}
 
 module _ (given : Given) where
   open given use {design, request, plan, n, start, rows, can}
-  open cut_of design request use {hub, bridges as b, base}
+  open cut_of design request use {hub, wires}
   open run_of given use {own, fed, count, token}
 
   pub reference-run : AreRows (plan_reference design request) start fed n own
@@ -30,23 +28,23 @@ module _ (given : Given) where
 
   -- ---- columns of channels
 
-  -- a plan's channel has the signal of the channel of the cut
-  pub channel-signal : (c : ℕ) (any : Channel) → c < length plan.channels → (get_or plan.channels c any).signal ≡ (link_at base c).signal
-  channel-signal c any lt = (given.planned.channel c any lt).signal ∙ wire-signal b base c
+  -- a plan's channel has the signal of its link
+  pub channel-signal : (c : ℕ) (any : Channel) → c < length plan.channels → (get_or plan.channels c any).signal ≡ (link_at wires c).signal
+  channel-signal c any lt = (given.planned.channel c any lt).signal
 
   -- columns of channels are those in the reference circuit
   pub own-columns : columns_of plan rows ≡ columns_of plan own
   own-columns =
       front-columns count plan.channels rows (λ c any lt.
-      let low : c < length base = omega (arith, lt, given.planned.channel_total, seated-many b base) in
-      subst (λ s. s < count) (sym (channel-signal c any lt)) (below (link_at base c).signal ((is-routed given).known c (wire 0 0 0) low)))
+      let low : c < length wires = omega (arith, lt, given.planned.channel_total) in
+      subst (λ s. s < count) (sym (channel-signal c any lt)) (below (link_at wires c).signal ((is-routed given).known c (wire 0 0 0) low)))
 
   -- the signal of a channel has the column of what is given
-  pub column-given : (c : ℕ) → c < length base → column own (link_at base c).signal ≡ given_column hub own c
+  pub column-given : (c : ℕ) → c < length wires → column own (link_at wires c).signal ≡ given_column hub own c
   column-given c lt = rows-given design request can.design_is can.keeps given.held (no-fault given) start given.typed fed n own reference-run c lt
 
   -- what the consumer takes is the column of the signal by which it is taken
-  pub column-taken : (c : ℕ) → c < length base → let s = (link_at base c).signal in take n (stream start.cycle (token s) (is_piped design.circuit request s) (column own s)) ≡ column own (taken_as hub s)
+  pub column-taken : (c : ℕ) → c < length wires → let s = (link_at wires c).signal in take n (stream start.cycle (token s) (is_piped design.circuit request s) (column own s)) ≡ column own (taken_as hub s)
   column-taken c lt =
       sym (rows-taken design request can.design_is can.keeps given.held (no-fault given) start given.typed fed n own reference-run c lt)
       ∙ ap (column own) (plan-kept design request can.design_is can.keeps given.held (no-fault given) c lt)

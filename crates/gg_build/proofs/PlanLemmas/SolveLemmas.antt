@@ -16,10 +16,9 @@ use Rattle.gg_cut_plan.specs.declared.plan.Body.TheVariants.{Cut, Memory, Source
 use Rattle.gg_cut_plan.specs.declared.plan.BridgeBody.{BridgeBody}
 use Rattle.gg_cut_plan.specs.declared.plan.Channel.{Channel}
 use Rattle.gg_cut_plan.specs.Channels.{wire}
-use Rattle.gg_cut_plan.specs.Machines.{first_source, first_tray}
 use Rattle.gg_cut_plan.specs.Direct.{is_piped}
 use Rattle.gg_cut_plan.specs.Plan.{wire_at as link_at, channels_to, channels_from}
-use Rattle.gg_cut_plan.specs.Seated.{first_kept_tray, open_outs, output_count, unseen}
+use Rattle.gg_cut_plan.specs.Ports.{first_kept_tray, open_outs, output_count, unseen}
 use Rattle.gg_bits.specs.Lists.{count_below}
 use Rattle.gg_cut_plan.specs.inside.Solves.{AgreesFrom, Answers, GivesSaid, in_order, lists_of, Solves}
 use Rattle.gg_cut_plan.specs.Solves.{AreRows, columns_of, model_start, stream, streams}
@@ -31,7 +30,6 @@ use Rattle.gg_cut_reference.proofs.MachineLemmas.{map-agree}
 use Rattle.gg_cut_reference.proofs.PlanLemmas.{rows-follow}
 use Rattle.gg_cut_reference.specs.whole.Whole.{plan_circuit}
 use Rattle.gg_cut_reference.specs.inside.Whole.{bridge_signal}
-use Rattle.gg_cut_reference.proofs.FittingLemmas.LowLemmas.{wire-signal}
 use Rattle.gg_cut_reference.proofs.WholeLemmas.PortLemmas.{plan-outs}
 use Rattle.gg_build.specs.plan.Built.{place_in}
 use Rattle.gg_build.specs.inside.Given.{Given, IsBodyAt, cut_of, run_of}
@@ -43,8 +41,7 @@ use Rattle.gg_build.proofs.PlanLemmas.BeginLemmas.{one-number}
 use Rattle.gg_build.proofs.PlanLemmas.NumberLemmas.{placed}
 use Rattle.gg_build.proofs.PlanLemmas.RowLemmas.{front-column, taken-below}
 use Rattle.gg_build.proofs.PlanLemmas.RunLemmas.{below, channel-signal, column-given, column-taken, own-columns, reference-run}
-use Rattle.gg_build.proofs.PlanLemmas.SeatLemmas.{low-seat, seated-many, source-at, tray-seat}
-use Rattle.gg_build.proofs.PlanLemmas.SideLemmas.{tray-gives-none, tray-takes}
+use Rattle.gg_build.proofs.PlanLemmas.SideLemmas.{source-at, tray-at, tray-gives-none, tray-takes}
 
 -- what the consumers of channel c take
 pub streams-at : (begin : ℕ) (token : ℕ → ℕ) (channels : List Channel) (lists : List (List ℕ)) (c : ℕ) (any : Channel) → length lists ≡ length channels → c < length channels → get_or (streams begin token channels lists) c [] ≡ stream begin (token (get_or channels c any).signal) (get_or channels c any).pipe (get_or lists c [])
@@ -66,7 +63,7 @@ none-left (x ∷ xs) none = absurd (omega (arith, none))
 
 module _ (given : Given) where
   open given use {design, request, models, plan, columns, n, start, rows, can}
-  open cut_of design request use {listed, hub, bridges as b, base, wires}
+  open cut_of design request use {hub, bridges as b, wires}
   open run_of given use {own, fed, count, token}
 
   abbrev lists : List (List ℕ)
@@ -75,30 +72,27 @@ module _ (given : Given) where
   abbrev taken : List (List ℕ)
   taken = streams start.cycle token plan.channels (columns_of plan own)
 
-  many : length wires ≡ length base
-  many = seated-many b base
-
   -- ---- the lists of channels
 
   height : length (columns_of plan own) ≡ length plan.channels
   height = length-map plan.channels (λ (channel : Channel). column own channel.signal)
 
-  list-at : (c : ℕ) → c < length base → get_or lists c [] ≡ given_column hub own c
+  list-at : (c : ℕ) → c < length wires → get_or lists c [] ≡ given_column hub own c
   list-at c lt =
-      let known : c < length plan.channels = omega (arith, lt, given.planned.channel_total, many) in
+      let known : c < length plan.channels = omega (arith, lt, given.planned.channel_total) in
       let some = some-item plan.channels c known in
       get_or-map (λ (channel : Channel). column own channel.signal) plan.channels c some [] known ∙ ap (column own) (channel-signal given c some known)
       ∙ column-given given c lt
 
-  stream-at : (c : ℕ) → c < length base → take n (get_or taken c []) ≡ taken_column hub start n own c
+  stream-at : (c : ℕ) → c < length wires → take n (get_or taken c []) ≡ taken_column hub start n own c
   stream-at c lt =
-      let known : c < length plan.channels = omega (arith, lt, given.planned.channel_total, many) in
+      let known : c < length plan.channels = omega (arith, lt, given.planned.channel_total) in
       let some = some-item plan.channels c known in
       let channel = get_or plan.channels c some in
       let at = given.planned.channel c some known in
       ap (take n) (streams-at start.cycle token plan.channels lists c some height known)
       ∙ ap (λ s. take n (stream start.cycle (token s) channel.pipe (get_or lists c []))) (channel-signal given c some known)
-      ∙ ap₂ (λ piped l. take n (stream start.cycle (token (link_at base c).signal) piped l)) (at.pipe ∙ ap (is_piped design.circuit request) (wire-signal b base c)) (list-at c lt)
+      ∙ ap₂ (λ piped l. take n (stream start.cycle (token (link_at wires c).signal) piped l)) at.pipe (list-at c lt)
 
   -- what a machine takes, and what it gives
   abbrev taken_by : ℕ → List (List ℕ)
@@ -110,41 +104,33 @@ module _ (given : Given) where
   taken-lists : (m : ℕ) → map (take n) (lists_of taken (channels_to wires m)) ≡ taken_by m
   taken-lists m =
       map-map (take n) (λ c. get_or taken c []) (channels_to wires m)
-      ∙ chosen-agree (λ c. take n (get_or taken c [])) (taken_column hub start n own) (λ c. (link_at wires c).consumer == m) (length wires) (λ c lt. stream-at c (omega (arith, lt, many)))
+      ∙ chosen-agree (λ c. take n (get_or taken c [])) (taken_column hub start n own) (λ c. (link_at wires c).consumer == m) (length wires) (λ c lt. stream-at c (omega (arith, lt)))
 
   given-lists : (m : ℕ) → lists_of lists (channels_from wires m) ≡ given_by m
-  given-lists m = chosen-agree (λ c. get_or lists c []) (given_column hub own) (λ c. (link_at wires c).producer == m) (length wires) (λ c lt. list-at c (omega (arith, lt, many)))
+  given-lists m = chosen-agree (λ c. get_or lists c []) (given_column hub own) (λ c. (link_at wires c).producer == m) (length wires) (λ c lt. list-at c (omega (arith, lt)))
 
   -- what a channel's consumer takes is the column of the signal by which it is taken
-  taken-is : (c : ℕ) → c < length base → taken_column hub start n own c ≡ column own (taken_as hub (link_at base c).signal)
+  taken-is : (c : ℕ) → c < length wires → taken_column hub start n own c ≡ column own (taken_as hub (link_at wires c).signal)
   taken-is c lt =
-      let s = (link_at base c).signal in
+      let s = (link_at wires c).signal in
       ap (λ l. take n (stream start.cycle (token s) (is_piped design.circuit request s) l)) (sym (column-given given c lt)) ∙ column-taken given c lt
 
-  taken-column : (c : ℕ) → c < length base → taken_column hub start n own c ≡ column rows (taken_as hub (link_at base c).signal)
-  taken-column c lt = taken-is c lt ∙ sym (front-column count rows (taken_as hub (link_at base c).signal) (taken-below given (link_at base c).signal ((is-routed given).known c (wire 0 0 0) lt)))
+  taken-column : (c : ℕ) → c < length wires → taken_column hub start n own c ≡ column rows (taken_as hub (link_at wires c).signal)
+  taken-column c lt = taken-is c lt ∙ sym (front-column count rows (taken_as hub (link_at wires c).signal) (taken-below given (link_at wires c).signal ((is-routed given).known c (wire 0 0 0) lt)))
 
   -- ---- machines without a bridge
 
   source-gives : (m place : ℕ) → IsBodyAt given m (Source place) → All (AgreesFrom start n (get_or columns place [])) (given_by m)
   source-gives m place body =
       let source = source-at design request (is-routed given) m place body.0 body.1 in
-      let q = first_source listed + source.base in
-      let s = value_at design.circuit.ins source.base in
-      let inside = below given s (can.design_is.formed.ins source.base source.known).0 in
-      let from = channels_from base q in
-      subst (λ (l : List ℕ). All (AgreesFrom start n (get_or columns place [])) (map (given_column hub own) l)) (sym source.seat.from)
-      (All-map (AgreesFrom start n (get_or columns place [])) (given_column hub own) from (λ k d lt t le less.
+      let s = value_at design.circuit.ins source.port in
+      let inside = below given s (can.design_is.formed.ins source.port source.known).0 in
+      let from = channels_from wires m in
+      All-map (AgreesFrom start n (get_or columns place [])) (given_column hub own) from (λ k d lt t le less.
       let c = get_or from k d in
-      let is : (link_at base c).given ≡ s = ((is-routed given).sources source.base source.known).all (link_at base c).given (Contains-map (λ j. (link_at base j).given) from c (Contains-get_or from k d lt)) in
+      let is : (link_at wires c).given ≡ s = source.gives.all (link_at wires c).given (Contains-map (λ j. (link_at wires j).given) from c (Contains-get_or from k d lt)) in
       ap (λ (l : List ℕ). value_at l t) (ap (column own) is ∙ sym (front-column count rows s inside) ∙ ap (column rows) (sym source.input))
-      ∙ (runs-whole given).fed place t body.0 le less))
-
-  cut-answers : (m : ℕ) (part : Body) → m < first_source listed → Answers part start n columns (map (taken_column hub start n own) (channels_to base m)) (map (given_column hub own) (channels_from base m)) → Answers part start n columns (taken_by m) (given_by m)
-  cut-answers m part lt is =
-      let seat = low-seat design request (is-routed given) m lt in
-      subst (λ (l : List ℕ). Answers part start n columns (map (taken_column hub start n own) l) (given_by m)) (sym seat.into)
-      (subst (λ (l : List ℕ). Answers part start n columns (map (taken_column hub start n own) (channels_to base m)) (map (given_column hub own) l)) (sym seat.from) is)
+      ∙ (runs-whole given).fed place t body.0 le less)
 
   -- ---- bridges
 
@@ -168,11 +154,11 @@ module _ (given : Given) where
     abbrev sees : List (List ℕ)
     sees = does.seen_columns given m bridge body
 
-    ins-low : (c : ℕ) → Contains to c → c < length base
-    ins-low c h = omega (arith, range-below (length wires) c (filter-cases (λ d. (link_at wires d).consumer == m) (range_with_len 0 (length wires)) c h).among, many)
+    ins-low : (c : ℕ) → Contains to c → c < length wires
+    ins-low c h = omega (arith, range-below (length wires) c (filter-cases (λ d. (link_at wires d).consumer == m) (range_with_len 0 (length wires)) c h).among)
 
-    outs-low : (c : ℕ) → Contains from c → c < length base
-    outs-low c h = omega (arith, range-below (length wires) c (filter-cases (λ d. (link_at wires d).producer == m) (range_with_len 0 (length wires)) c h).among, many)
+    outs-low : (c : ℕ) → Contains from c → c < length wires
+    outs-low c h = omega (arith, range-below (length wires) c (filter-cases (λ d. (link_at wires d).producer == m) (range_with_len 0 (length wires)) c h).among)
 
     -- the columns of what it takes, in its model's order, are those of what it sees
     in-columns : in_order bridge.ins (map (taken_column hub start n own) to) ≡ sees
@@ -214,7 +200,7 @@ module _ (given : Given) where
         let c = value_at from i in
         let there = Contains-get_or from i 0 lt in
         let port = gives-port given m bridge body c there in
-        let s = (link_at base c).given in
+        let s = (link_at wires c).given in
         let low : s < count = below given s (subst (λ j. j < length design.circuit.signals) (sym port.plain) port.signal) in
         column-before model (model_start model start) sees n others mine other own_run same (value_at model.outs (place c))
         ∙ does.driven-column given m bridge body c there
@@ -233,15 +219,14 @@ module _ (given : Given) where
   answers : (m : ℕ) (body : Body) → IsBodyAt given m body → Answers body start n columns (taken_by m) (given_by m)
   answers m (Cut part) body =
       let follows = rows-follow design request can.design_is can.keeps given.held (no-fault given) start given.typed fed n own (reference-run given) m part body.1 in
-      cut-answers m (Cut part) (omega (arith, body.0)) (record { rows = follows.own; run = follows.run; gives = follows.gives })
+      record { rows = follows.own; run = follows.run; gives = follows.gives }
   answers m (Memory part) body =
       let follows = rows-follow design request can.design_is can.keeps given.held (no-fault given) start given.typed fed n own (reference-run given) m part body.2 in
-      cut-answers m (Memory part) body.1 (record { rows = follows.own; run = follows.run; gives = follows.gives })
+      record { rows = follows.own; run = follows.run; gives = follows.gives }
   answers m (Source place) body = source-gives m place body
   answers m Tray body =
-      let tray = tray-seat design request (is-routed given) m body.0 body.1 in
-      let seat = tray.seat in
-      ap (map (given_column hub own)) (none-left (channels_from wires m) (ap length seat.from ∙ tray-gives-none design listed hub (is-routed given) (first_tray design.circuit listed + tray.place) (omega arith) seat.known))
+      let tray = tray-at design request (is-routed given) m body.0 body.1 in
+      ap (map (given_column hub own)) (none-left (channels_from wires m) (tray-gives-none wires m (value_at design.circuit.outs tray.port) tray.takes))
   answers m (Bridge bridge) body = bridge-answers m bridge body
 
   own-solves : Solves plan start token columns n (columns_of plan own)
@@ -264,8 +249,8 @@ module _ (given : Given) where
   -- ---- channels and outputs, by cycle
 
   -- what a channel's consumer takes is the column of the signal by which it is taken
-  pub plan-list : (c : ℕ) → c < length base → take n (get_or (streams start.cycle token plan.channels (columns_of plan rows)) c [])
-      ≡ column rows (taken_as hub (link_at base c).signal)
+  pub plan-list : (c : ℕ) → c < length wires → take n (get_or (streams start.cycle token plan.channels (columns_of plan rows)) c [])
+      ≡ column rows (taken_as hub (link_at wires c).signal)
   plan-list c lt = ap (λ (l : List (List ℕ)). take n (get_or (streams start.cycle token plan.channels l) c [])) (own-columns given) ∙ stream-at c lt ∙ taken-column c lt
 
   -- the top's outputs that no bridge sees, and the stops
@@ -273,11 +258,11 @@ module _ (given : Given) where
   kept_outs = open_outs design.circuit (output_count design) request ++ drop (output_count design) design.circuit.outs
 
   -- what a tray takes is the column of its output in the circuit that the network computes
-  plan-output : (k c : ℕ) → k < length kept_outs → c < length base → (link_at base c).signal ≡ value_at kept_outs k
+  plan-output : (k c : ℕ) → k < length kept_outs → c < length wires → (link_at wires c).signal ≡ value_at kept_outs k
       → take n (get_or (streams start.cycle token plan.channels (columns_of plan rows)) c []) ≡ column rows (value_at (plan_circuit design request models).outs k)
   plan-output k c low lt same = plan-list c lt ∙ ap (column rows) (ap (taken_as hub) same ∙ sym (get_or-map (taken_as hub) kept_outs k 0 0 low) ∙ ap (λ (l : List ℕ). value_at l k) (sym (plan-outs design request models can)))
 
-  pub plan-output-value : (k c t : ℕ) → k < length kept_outs → c < length base → (link_at base c).signal ≡ value_at kept_outs k → t < n
+  pub plan-output-value : (k c t : ℕ) → k < length kept_outs → c < length wires → (link_at wires c).signal ≡ value_at kept_outs k → t < n
       → value_at (get_or (streams start.cycle token plan.channels (columns_of plan rows)) c []) t ≡ value_at (row_at rows t) (value_at (plan_circuit design request models).outs k)
   plan-output-value k c t low lt same inside =
       sym (get_or-take n (get_or (streams start.cycle token plan.channels (columns_of plan rows)) c []) t 0 inside) ∙ ap (λ (l : List ℕ). value_at l t) (plan-output k c low lt same)
@@ -286,26 +271,25 @@ module _ (given : Given) where
   -- The tray of the output at a place among those that are left takes one channel, which carries the output.
   pub record IsTrayOf (k : ℕ) : Type 0 where
     pub channel : ℕ
-    pub known : channel < length base
+    pub known : channel < length wires
     pub into : channels_to wires (first_kept_tray b + k) ≡ channel ∷ []
-    pub signal : (link_at base channel).signal ≡ value_at kept_outs k
+    pub signal : (link_at wires channel).signal ≡ value_at kept_outs k
 
   pub plan-tray : (k : ℕ) → k < length kept_outs → IsTrayOf k
   plan-tray k lt =
       let opened = open_outs design.circuit (output_count design) request in
       let total = outs-count design.circuit design.tree request in
-      let tray = tray-seat design request (is-routed given) (first_kept_tray b + k) (omega arith) (omega (arith, lt, total, length-append opened (drop (output_count design) design.circuit.outs))) in
-      let seat = tray.seat in
-      let q = first_tray design.circuit listed + tray.place in
-      let to = channels_to base q in
-      let one = tray-takes design listed hub (is-routed given) q (omega arith) seat.known in
+      let m = first_kept_tray b + k in
+      let tray = tray-at design request (is-routed given) m (omega arith) (omega (arith, lt, total, length-append opened (drop (output_count design) design.circuit.outs))) in
+      let to = channels_to wires m in
+      let one = tray-takes wires m (value_at design.circuit.outs tray.port) tray.takes (is-routed given).once in
       let c = value_at to 0 in
       let has = Contains-get_or to 0 0 (omega (arith, one)) in
-      let at = outs-place design.circuit design.tree request tray.place tray.known tray.kept in
-      let place : count_below (unseen b) tray.place ≡ k = omega (arith, tray.count) in
+      let at = outs-place design.circuit design.tree request tray.port tray.known tray.kept in
+      let place : count_below (unseen b) tray.port ≡ k = omega (arith, tray.count) in
       record {
         channel = c;
-        known = (links.taken-is base q c has).known;
-        into = seat.into ∙ one-number to one;
-        signal = ((is-routed given).trays tray.place tray.known).all (link_at base c).signal (Contains-map (λ d. (link_at base d).signal) to c has) ∙ sym at.is ∙ ap (value_at kept_outs) place;
+        known = (links.taken-is wires m c has).known;
+        into = one-number to one;
+        signal = tray.takes.all (link_at wires c).signal (Contains-map (λ d. (link_at wires d).signal) to c has) ∙ sym at.is ∙ ap (value_at kept_outs) place;
       }

@@ -20,9 +20,9 @@ use Rattle.gg_cut_plan.specs.declared.plan.Body.{Body}
 use Rattle.gg_cut_plan.specs.declared.plan.Body.TheVariants.{Cut, Memory, Source, Tray, Bridge}
 use Rattle.gg_cut_plan.specs.declared.plan.Machine as planned
 use Rattle.gg_cut_plan.specs.declared.plan.Channel.{Channel}
-use Rattle.gg_cut_plan.specs.Machines.{first_source, first_tray}
+use Rattle.gg_cut_plan.specs.Machines.{first_source}
 use Rattle.gg_cut_plan.specs.Direct.{is_piped}
-use Rattle.gg_cut_plan.specs.Seated.{first_bridge}
+use Rattle.gg_cut_plan.specs.Ports.{first_bridge}
 use Rattle.gg_cut_plan.specs.Plan.{wire_at as link_at, channels_to, channels_from, signals_of, givens_of, IsCutPart}
 use Rattle.gg_cut_plan.specs.Solves.{AreRows, columns_of, stream, streams}
 use Rattle.gg_cut_reference.specs.Links.{taken_as}
@@ -35,13 +35,12 @@ use Rattle.gg_node.specs.Machine.{Machine, machine_at, no_state}
 use Rattle.gg_net.specs.Network.{wire_at, entered_by, Kind, kind_of, kind_at}
 use Rattle.gg_net.specs.Kept.{in_columns, list_at, rows_at, Answers, Asks, IsSound, Solves}
 use Rattle.gg_net.proofs.StateLemmas.{column-at}
-use Rattle.gg_cut_reference.proofs.FittingLemmas.LowLemmas.{givens-alike, signals-alike, wire-given, wire-signal}
 use Rattle.gg_build.specs.plan.Built.{machine_in, nameless, first_token, wires_of_plan, IsBuilt, AreBuilt, body_rows, body_start, rows_of, body_state, states_of, flow_of, plan_frame}
 use Rattle.gg_build.specs.inside.Given.{Given, IsBodyAt, cut_of, run_of}
 use Rattle.gg_cut_reference.proofs.WholeLemmas.PortLemmas.{plan-ins}
 use Rattle.gg_build.proofs.PlanLemmas.LinkLemmas.{length-wires, linked}
 use Rattle.gg_build.proofs.PlanLemmas.ListedLemmas.{given-at, given-placed, taken-at, taken-placed}
-use Rattle.gg_build.proofs.PlanLemmas.SideLemmas.{source-takes, source-all, tray-takes, tray-gives-none}
+use Rattle.gg_build.proofs.PlanLemmas.SideLemmas.{source-all, source-at, source-takes, tray-at, tray-gives-none, tray-takes}
 use Rattle.gg_build.proofs.PlanLemmas.FitLemmas.{kind-is}
 use Rattle.gg_build.proofs.PlanLemmas.SeenLemmas.{seen-part, seen-run, seen-typed}
 use Rattle.gg_build.proofs.PlanLemmas.ShownLemmas.{seen-twice}
@@ -51,7 +50,6 @@ use Rattle.gg_build.proofs.PlanLemmas.GivenLemmas.{are-links, is-routed, memory-
 use Rattle.gg_build.proofs.PlanLemmas.PlanLemmas.{plan-no-ring, plan-wired}
 use Rattle.gg_build.proofs.PlanLemmas.RowLemmas.{front-column, front-rows, models-before, models_in, rows-at}
 use Rattle.gg_build.proofs.PlanLemmas.RunLemmas.{below, channel-signal, column-given, column-taken, own-columns, reference-run}
-use Rattle.gg_build.proofs.PlanLemmas.SeatLemmas.{IsSeatOf, low-seat, seated-many, source-at, tray-seat}
 use Rattle.gg_build.proofs.PlanLemmas.DoLemmas.{DoesCycles, cut-named, unit-does, memory-does}
 use Rattle.gg_build.proofs.PlanLemmas.EdgeLemmas.{source-does, tray-does}
 
@@ -83,14 +81,11 @@ stream-at begin token (channel ∷ channels) rows (suc c) any lt = stream-at beg
 
 module _ (given : Given) (machines : List Machine) (built : AreBuilt given.plan (body_start given.start) given.columns machines) where
   open given use {design, request, models, plan, columns, n, start, rows, can}
-  open cut_of design request use {listed, hub, bridges as b, base, wires}
+  open cut_of design request use {listed, hub, bridges as b, wires}
   open run_of given use {own, fed, count, token}
 
   run : AreRows (plan_reference design request) start fed n own
   run = reference-run given
-
-  low-link : (c : ℕ) → c < length wires → c < length base
-  low-link c lt = omega (arith, lt, seated-many b base)
 
   -- ---- machines
 
@@ -107,56 +102,45 @@ module _ (given : Given) (machines : List Machine) (built : AreBuilt given.plan 
   out-count : (m : ℕ) → length (outs_of_machine m) ≡ length (channels_from wires m)
   out-count m = length-map (channels_from wires m) (λ c. (link_at wires c).given)
 
-  -- what a machine of the cut takes it sees behind the pipes
-  abbrev ins_of_cut : ℕ → List ℕ
-  ins_of_cut m = map (plan_seen design request m) (signals_of base (channels_to base m))
+  -- what a machine takes it sees behind the pipes
+  abbrev seen_by_machine : ℕ → List ℕ
+  seen_by_machine m = map (plan_seen design request m) (signals_of wires (channels_to wires m))
 
-  abbrev outs_of_cut : ℕ → List ℕ
-  outs_of_cut m = givens_of base (channels_from base m)
-
-  sees-taken : (m : ℕ) → ins_of_cut m ≡ map (taken_as hub) (signals_of base (channels_to base m))
+  sees-taken : (m : ℕ) → seen_by_machine m ≡ ins_of_machine m
   sees-taken m =
-      let to = channels_to base m in
-      let signals = signals_of base to in
-      let long = length-map to (λ c. (link_at base c).signal) in
+      let to = channels_to wires m in
+      let signals = signals_of wires to in
+      let long = length-map to (λ c. (link_at wires c).signal) in
       map-agree (plan_seen design request m) (taken_as hub) signals (λ i lt.
       let low : i < length to = omega (arith, lt, long) in
       let c = value_at to i in
-      let at = taken-at base m i low in
-      let is : value_at signals i ≡ (link_at base c).signal = get_or-map (λ k. (link_at base k).signal) to i 0 0 low in
-      ap (plan_seen design request m) is ∙ subst (λ k. plan_seen design request k (link_at base c).signal ≡ taken_as hub (link_at base c).signal) at.consumer (plan-kept design request can.design_is can.keeps given.held (no-fault given) c at.known) ∙ ap (taken_as hub) (sym is))
+      let at = taken-at wires m i low in
+      let is : value_at signals i ≡ (link_at wires c).signal = get_or-map (λ k. (link_at wires k).signal) to i 0 0 low in
+      ap (plan_seen design request m) is ∙ subst (λ k. plan_seen design request k (link_at wires c).signal ≡ taken_as hub (link_at wires c).signal) at.consumer (plan-kept design request can.design_is can.keeps given.held (no-fault given) c at.known) ∙ ap (taken_as hub) (sym is))
 
   -- it sees what it gives by the numbers of the design
-  gives-own : (m : ℕ) → map (plan_seen design request m) (outs_of_cut m) ≡ outs_of_cut m
+  gives-own : (m : ℕ) → map (plan_seen design request m) (outs_of_machine m) ≡ outs_of_machine m
   gives-own m =
-      let outs = outs_of_cut m in
-      let from = channels_from base m in
+      let outs = outs_of_machine m in
+      let from = channels_from wires m in
       let count = length-map outs (plan_seen design request m) in
       same_number_lists (map (plan_seen design request m) outs) outs count (λ o lt.
       let low : o < length outs = omega (arith, lt, count) in
-      let there : o < length from = omega (arith, low, length-map from (λ c. (link_at base c).given)) in
+      let there : o < length from = omega (arith, low, length-map from (λ c. (link_at wires c).given)) in
       let c = value_at from o in
-      let at = given-at base m o there in
-      let is : value_at outs o ≡ (link_at base c).given = get_or-map (λ k. (link_at base k).given) from o 0 0 there in
+      let at = given-at wires m o there in
+      let is : value_at outs o ≡ (link_at wires c).given = get_or-map (λ k. (link_at wires k).given) from o 0 0 there in
       get_or-map (plan_seen design request m) outs o 0 0 low ∙ ap (plan_seen design request m) is
-      ∙ subst (λ k. plan_seen design request k (link_at base c).given ≡ (link_at base c).given) at.producer (plan-gives design request can.design_is can.keeps given.held (no-fault given) c at.known) ∙ sym is)
-
-  -- what machine `q` of the cut does the plan's machine that it is does
-  seat-ins : (m q : ℕ) → IsSeatOf design request m q → ins_of_machine m ≡ map (taken_as hub) (signals_of base (channels_to base q))
-  seat-ins m q seat = ap (map (taken_as hub)) (ap (signals_of wires) seat.into ∙ signals-alike b base (channels_to base q))
-
-  seat-outs : (m q : ℕ) → IsSeatOf design request m q → outs_of_machine m ≡ outs_of_cut q
-  seat-outs m q seat = ap (givens_of wires) seat.from ∙ givens-alike b base (channels_from base q)
+      ∙ subst (λ k. plan_seen design request k (link_at wires c).given ≡ (link_at wires c).given) at.producer (plan-gives design request can.design_is can.keeps given.held (no-fault given) c at.known) ∙ sym is)
 
   -- machine m, of this kind, does all cycles from this state, with these rows
   abbrev Does : ℕ → Kind → State → List (List ℕ) → Type 0
   Does m kind begins mine = DoesCycles start.cycle own n (ins_of_machine m) (outs_of_machine m) kind begins mine
 
-  cut-does : (m : ℕ) (kind : Kind) (begins : State) (mine : List (List ℕ)) → m < first_source listed → DoesCycles start.cycle own n (ins_of_cut m) (map (plan_seen design request m) (outs_of_cut m)) kind begins mine → Does m kind begins mine
-  cut-does m kind begins mine lt does =
-      let seat = low-seat design request (is-routed given) m lt in
-      subst (λ (l : List ℕ). DoesCycles start.cycle own n l (outs_of_machine m) kind begins mine) (sees-taken m ∙ sym (seat-ins m m seat))
-      (subst (λ (l : List ℕ). DoesCycles start.cycle own n (ins_of_cut m) l kind begins mine) (gives-own m ∙ sym (seat-outs m m seat)) does)
+  cut-does : (m : ℕ) (kind : Kind) (begins : State) (mine : List (List ℕ)) → DoesCycles start.cycle own n (seen_by_machine m) (map (plan_seen design request m) (outs_of_machine m)) kind begins mine → Does m kind begins mine
+  cut-does m kind begins mine does =
+      subst (λ (l : List ℕ). DoesCycles start.cycle own n l (outs_of_machine m) kind begins mine) (sees-taken m)
+      (subst (λ (l : List ℕ). DoesCycles start.cycle own n (seen_by_machine m) l kind begins mine) (gives-own m) does)
 
   part-formed : (m : ℕ) (part : Part) → IsCutPart design listed hub m part → IsWellFormed part.piece
   part-formed m part cut = IsWellFormed-part design.circuit part.piece part.globals part.held part.memories part.clocks can.design_is.formed cut.is
@@ -199,34 +183,30 @@ module _ (given : Given) (machines : List Machine) (built : AreBuilt given.plan 
   body-does m outs behind (Cut part) machine at body is =
       let cut = body.1 in
       subst (Does m (kind_of machine) (body_state (Cut part) start.state)) (part-rows-front m part cut)
-      (cut-does m (kind_of machine) (body_state (Cut part) start.state) (part_rows (map (plan_seen design request m) part.globals) own) (omega (arith, body.0))
-      (unit-does part (plan_seen design request m) n own start (signals_of base (channels_to base m)) (outs_of_cut m) (part-formed m part cut) (cut-named design listed hub m part cut) run.count (part-run m part cut) given.most machine cut.ordered is))
+      (cut-does m (kind_of machine) (body_state (Cut part) start.state) (part_rows (map (plan_seen design request m) part.globals) own)
+      (unit-does part (plan_seen design request m) n own start (signals_of wires (channels_to wires m)) (outs_of_machine m) (part-formed m part cut) (cut-named design listed hub m part cut) run.count (part-run m part cut) given.most machine cut.ordered is))
   body-does m outs behind (Memory part) machine at body is =
       let cut = body.2 in
       let memory = memory-at given m part body in
       subst (Does m (kind_of machine) (body_state (Memory part) start.state)) (memory-rows-front m part cut)
-      (cut-does m (kind_of machine) (body_state (Memory part) start.state) (part_rows (map (plan_seen design request m) (map (value_at part.globals) (part.piece.ins ++ part.piece.outs))) own) body.1
-      (memory-does part (plan_seen design request m) n own start (signals_of base (channels_to base m)) (outs_of_cut m) (part-formed m part cut) (cut-named design listed hub m part cut) run.count (part-run m part cut) given.most machine (sym cut.is.count) cut.is.clock_count memory.1.count (part-typed m part cut) is))
+      (cut-does m (kind_of machine) (body_state (Memory part) start.state) (part_rows (map (plan_seen design request m) (map (value_at part.globals) (part.piece.ins ++ part.piece.outs))) own)
+      (memory-does part (plan_seen design request m) n own start (signals_of wires (channels_to wires m)) (outs_of_machine m) (part-formed m part cut) (cut-named design listed hub m part cut) run.count (part-run m part cut) given.most machine (sym cut.is.count) cut.is.clock_count memory.1.count (part-typed m part cut) is))
   body-does m outs behind (Source place) machine at body is =
       let source = source-at design request (is-routed given) m place body.0 body.1 in
-      let seat = source.seat in
-      let q = first_source listed + source.base in
       source-does start.cycle own n place columns (ins_of_machine m) (outs_of_machine m) (replicate outs false) machine
       (given.given.height place [] (let known = body.0 in omega (arith, known, given.given.count, ap length (plan-ins design request models can))))
-      (in-count m ∙ ap length seat.into ∙ source-takes design listed hub (is-routed given) q source.base source.known refl)
+      (in-count m ∙ source-takes wires m (value_at design.circuit.ins source.port) source.gives)
       (λ o t few le lt.
-      let low : o < length (outs_of_cut q) = omega (arith, few, ap length (seat-outs m q seat)) in
-      let s = value_at design.circuit.ins source.base in
-      let inside = below given s (can.design_is.formed.ins source.base source.known).0 in
-      ap (λ j. value_at (column own j) t) (ap (λ (l : List ℕ). value_at l o) (seat-outs m q seat) ∙ source-all design listed hub (is-routed given) q source.base source.known refl o 0 low)
+      let s = value_at design.circuit.ins source.port in
+      let inside = below given s (can.design_is.formed.ins source.port source.known).0 in
+      ap (λ j. value_at (column own j) t) (source-all wires m s source.gives o 0 few)
       ∙ ap (λ (l : List ℕ). value_at l t) (sym (front-column count rows s inside) ∙ ap (column rows) (sym source.input))
       ∙ (runs-whole given).fed place t body.0 le lt) is
   body-does m outs behind Tray machine at body is =
-      let tray = tray-seat design request (is-routed given) m body.0 body.1 in
-      let seat = tray.seat in
-      let q = first_tray design.circuit listed + tray.place in
+      let tray = tray-at design request (is-routed given) m body.0 body.1 in
+      let s = value_at design.circuit.outs tray.port in
       tray-does start.cycle own n (ins_of_machine m) (outs_of_machine m) machine
-      (in-count m ∙ ap length seat.into ∙ tray-takes design listed hub (is-routed given) q (omega arith) seat.known) (out-count m ∙ ap length seat.from ∙ tray-gives-none design listed hub (is-routed given) q (omega arith) seat.known) given.most is
+      (in-count m ∙ tray-takes wires m s tray.takes (is-routed given).once) (out-count m ∙ tray-gives-none wires m s tray.takes) given.most is
   body-does m outs behind (Bridge bridge) machine at body is =
       let k = m - first_bridge b in
       let same : behind ≡ model_first design request models k = at k (omega (arith, body.0)) in
@@ -250,45 +230,44 @@ module _ (given : Given) (machines : List Machine) (built : AreBuilt given.plan 
 
   -- whether a channel has a pipe
   abbrev piped : ℕ → Bool
-  piped c = is_piped design.circuit request (link_at base c).signal
+  piped c = is_piped design.circuit request (link_at wires c).signal
 
   -- what its pipe opens with
   abbrev opens_with : ℕ → ℕ
-  opens_with c = token (link_at base c).signal
+  opens_with c = token (link_at wires c).signal
 
   abbrev lists : List (List ℕ)
   lists = streams start.cycle token plan.channels (columns_of plan own)
 
-  list-is : (c : ℕ) → c < length wires → list_at lists c ≡ stream start.cycle (opens_with c) (piped c) (column own (link_at base c).signal)
+  list-is : (c : ℕ) → c < length wires → list_at lists c ≡ stream start.cycle (opens_with c) (piped c) (column own (link_at wires c).signal)
   list-is c lt =
       let known : c < length plan.channels = omega (arith, lt, (are-links given).count) in
       let any = some-item plan.channels c known in
       let channel = given.planned.channel c any known in
-      stream-at start.cycle token plan.channels own c any known ∙ ap₂ (λ b s. stream start.cycle (token s) b (column own s)) (channel.pipe ∙ ap (is_piped design.circuit request) (wire-signal b base c)) (channel-signal given c any known)
+      stream-at start.cycle token plan.channels own c any known ∙ ap₂ (λ b s. stream start.cycle (token s) b (column own s)) channel.pipe (channel-signal given c any known)
 
   first-is : (c : ℕ) → c < length wires → (wire_at (wires_of_plan token plan) c).first ≡ first_token (piped c) (opens_with c)
   first-is c lt =
       let known : c < length plan.channels = omega (arith, lt, (are-links given).count) in
       let any = some-item plan.channels c known in
       let channel = given.planned.channel c any known in
-      (linked token plan wires (are-links given) c lt).first any known ∙ ap₂ (λ b s. first_token b (token s)) (channel.pipe ∙ ap (is_piped design.circuit request) (wire-signal b base c)) (channel-signal given c any known)
+      (linked token plan wires (are-links given) c lt).first any known ∙ ap₂ (λ b s. first_token b (token s)) channel.pipe (channel-signal given c any known)
 
   -- what the producer gives in a cycle has its place in the channel's list
-  given-value : (c t : ℕ) → c < length wires → start.cycle ≤ t → value_at (row_at own t) (link_at base c).given ≡ value_at (list_at lists c) (entered_by (wire_at (wires_of_plan token plan) c).first t)
+  given-value : (c t : ℕ) → c < length wires → start.cycle ≤ t → value_at (row_at own t) (link_at wires c).given ≡ value_at (list_at lists c) (entered_by (wire_at (wires_of_plan token plan) c).first t)
   given-value c t lt le =
-      sym (column-at own (link_at base c).given t)
-      ∙ ap (λ (l : List ℕ). value_at l t) (sym (column-given given c (low-link c lt)))
-      ∙ sym (stream-entered start.cycle (opens_with c) (piped c) (column own (link_at base c).signal) t le)
+      sym (column-at own (link_at wires c).given t)
+      ∙ ap (λ (l : List ℕ). value_at l t) (sym (column-given given c lt))
+      ∙ sym (stream-entered start.cycle (opens_with c) (piped c) (column own (link_at wires c).signal) t le)
       ∙ ap₂ (λ (l : List ℕ) (first : Option ℕ). value_at l (entered_by first t)) (sym (list-is c lt)) (sym (first-is c lt))
 
   -- what the consumer sees in a cycle is the list's value
-  taken-value : (c t : ℕ) → c < length wires → t < n → value_at (row_at own t) (taken_as hub (link_at base c).signal) ≡ value_at (list_at lists c) t
+  taken-value : (c t : ℕ) → c < length wires → t < n → value_at (row_at own t) (taken_as hub (link_at wires c).signal) ≡ value_at (list_at lists c) t
   taken-value c t lt inside =
-      let low = low-link c lt in
-      let s = taken_as hub (link_at base c).signal in
-      let values = stream start.cycle (opens_with c) (piped c) (column own (link_at base c).signal) in
+      let s = taken_as hub (link_at wires c).signal in
+      let values = stream start.cycle (opens_with c) (piped c) (column own (link_at wires c).signal) in
       sym (column-at own s t)
-      ∙ ap (λ (l : List ℕ). value_at l t) (sym (column-taken given c low))
+      ∙ ap (λ (l : List ℕ). value_at l t) (sym (column-taken given c lt))
       ∙ get_or-take n values t 0 inside
       ∙ ap (λ (l : List ℕ). value_at l t) (sym (list-is c lt))
 
@@ -305,8 +284,8 @@ module _ (given : Given) (machines : List Machine) (built : AreBuilt given.plan 
       let o = (wire_at (wires_of_plan token plan) c).out in
       let value = value_at (list_at lists c) (entered_by (wire_at (wires_of_plan token plan) c).first t) in
       let low : o < length (outs_of_machine p) = omega (arith, link.out, at.within, out-count p) in
-      let signal : value_at (outs_of_machine p) o ≡ (link_at base c).given =
-      get_or-map (λ k. (link_at wires k).given) (channels_from wires p) o 0 0 (omega (arith, link.out, at.within)) ∙ ap (λ k. (link_at wires k).given) (ap (value_at (channels_from wires p)) link.out ∙ at.is) ∙ wire-given b base c in
+      let signal : value_at (outs_of_machine p) o ≡ (link_at wires c).given =
+      get_or-map (λ k. (link_at wires k).given) (channels_from wires p) o 0 0 (omega (arith, link.out, at.within)) ∙ ap (λ k. (link_at wires k).given) (ap (value_at (channels_from wires p)) link.out ∙ at.is) in
       subst (λ m. Answers (kind_at (map kind_of machines) m).behaviour (rows_at (rows_of design request plan rows) m) o t value) (sym link.producer)
       (subst (Answers (kind_at (map kind_of machines) p).behaviour (rows_at (rows_of design request plan rows) p) o t) (ap (value_at (row_at own t)) signal ∙ given-value c t known le)
       ((machine-does p ((are-links given).ends c known).0).answers o t low le inside))
@@ -320,9 +299,9 @@ module _ (given : Given) (machines : List Machine) (built : AreBuilt given.plan 
       let at = taken-placed wires q c (record { known = known; consumer = refl }) in
       let i = (wire_at (wires_of_plan token plan) c).place in
       let low : i < length (channels_to wires q) = omega (arith, link.place, at.within) in
-      let signal : value_at (ins_of_machine q) i ≡ taken_as hub (link_at base c).signal =
+      let signal : value_at (ins_of_machine q) i ≡ taken_as hub (link_at wires c).signal =
       get_or-map (taken_as hub) (signals_of wires (channels_to wires q)) i 0 0 (omega (arith, low, length-map (channels_to wires q) (λ k. (link_at wires k).signal)))
-      ∙ ap (taken_as hub) (get_or-map (λ k. (link_at wires k).signal) (channels_to wires q) i 0 0 low ∙ ap (λ k. (link_at wires k).signal) (ap (value_at (channels_to wires q)) link.place ∙ at.is) ∙ wire-signal b base c) in
+      ∙ ap (taken_as hub) (get_or-map (λ k. (link_at wires k).signal) (channels_to wires q) i 0 0 low ∙ ap (λ k. (link_at wires k).signal) (ap (value_at (channels_to wires q)) link.place ∙ at.is)) in
       subst (λ m. Asks (kind_at (map kind_of machines) m).behaviour (rows_at (rows_of design request plan rows) m) i t (value_at (list_at lists c) t)) (sym link.consumer)
       (subst (Asks (kind_at (map kind_of machines) q).behaviour (rows_at (rows_of design request plan rows) q) i t) (ap (value_at (row_at own t)) signal ∙ taken-value c t known inside)
       ((machine-does q ((are-links given).ends c known).1).asks i t (omega (arith, low, in-count q)) le inside))
@@ -350,14 +329,14 @@ module _ (given : Given) (machines : List Machine) (built : AreBuilt given.plan 
         does = λ m lt. (machine-does m (there m lt)).does;
         long = λ c lt.
             let known = link-there c lt in
-            let column_of = column own (link_at base c).signal in
-            let height : length column_of ≡ n = length-map own (λ (row : List ℕ). value_at row (link_at base c).signal) ∙ run.count in
+            let column_of = column own (link_at wires c).signal in
+            let height : length column_of ≡ n = length-map own (λ (row : List ℕ). value_at row (link_at wires c).signal) ∙ run.count in
             let begun = run.begun in
             ap length (list-is c known) ∙ stream-long start.cycle (opens_with c) (piped c) column_of (omega (arith, begun, height))
             ∙ ap₂ (λ (first : Option ℕ) k. entered_by first k) (sym (first-is c known)) height;
         opens = λ c first lt is.
             let known = link-there c lt in
-            stream-opens start.cycle (opens_with c) (piped c) first (column own (link_at base c).signal) (sym (first-is c known) ∙ is) ∙ ap (λ (l : List ℕ). value_at l start.cycle) (sym (list-is c known));
+            stream-opens start.cycle (opens_with c) (piped c) first (column own (link_at wires c).signal) (sym (first-is c known) ∙ is) ∙ ap (λ (l : List ℕ). value_at l start.cycle) (sym (list-is c known));
         given = λ c lt t le inside. gives c t lt le inside;
         taken = λ c lt t le inside. takes c t lt le inside;
       }

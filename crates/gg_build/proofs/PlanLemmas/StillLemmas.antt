@@ -15,10 +15,10 @@ use Rattle.gg_cut_plan.proofs.DirectLemmas.{direct-is}
 use Rattle.gg_cut_routes.proofs.RouteLemmas.{number-is, IsBase, giver-is, own-no-wire, Routing, Plain, Direct, routing, route-signal, plain-given, plain-producer, direct-producer, IsRoute, out-routes}
 use Rattle.gg_build.proofs.PlanLemmas.ListedLemmas.{IsGivenBy, given-is}
 
-module _ (hub : Hub) (base : IsBase hub) (m : ℕ) (memory : hub.memory m ≡ true) (other : m ≢ 0) where
+module _ (hub : Hub) (base : IsBase hub) (m : ℕ) (silent : hub.silent m ≡ true) (other : m ≢ 0) where
   -- what the memory gives is no origin of a direct channel
-  no-origin : (w : Link) (x : ℕ) → Contains hub.base w → w.producer ≡ m → w.signal ≡ x → hub.memory (giver hub x) ≡ false → ⊥
-  no-origin w x h from is plain = clash (hub.memory m) memory (ap hub.memory (sym (ap (giver hub) (sym is) ∙ giver-is hub base w h ∙ from)) ∙ plain)
+  no-origin : (w : Link) (x : ℕ) → Contains hub.base w → w.producer ≡ m → w.signal ≡ x → hub.silent (giver hub x) ≡ false → ⊥
+  no-origin w x h from is plain = clash (hub.silent m) silent (ap hub.silent (sym (ap (giver hub) (sym is) ∙ giver-is hub base w h ∙ from)) ∙ plain)
 
   -- so a channel that it gives isn't gone
   stays : (w : Link) → Contains hub.base w → w.producer ≡ m → is_gone hub w.signal ≡ false
@@ -32,7 +32,7 @@ module _ (hub : Hub) (base : IsBase hub) (m : ℕ) (memory : hub.memory m ≡ tr
           absurd (no-origin w x h from is (direct-is hub found.item x (number-is x (direct_of hub found.item) found.passes)).plain)
 
       at : (x : ℕ) → origin hub w.signal ≡ Some x → Chain hub (length hub.circuit.signals) w.signal x → is_gone hub w.signal ≡ false
-      at x e (Here more same taken plain free is) = ap (left_by hub) e ∙ left x is (cases_Bool (has_left hub x))
+      at x e (Here more same taken plain is) = ap (left_by hub) e ∙ left x is (cases_Bool (has_left hub x))
       at x e (Copy more t same taken own to rest) = absurd (own-no-wire hub base w h own)
 
       by : (o : Option ℕ) → origin hub w.signal ≡ o → is_gone hub w.signal ≡ false

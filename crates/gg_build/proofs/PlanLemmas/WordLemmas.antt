@@ -12,11 +12,14 @@ use Rattle.gg_flat.specs.Line.{value_at}
 use Rattle.gg_flat.specs.Circuit.{FlatCircuit, readers_at}
 use Rattle.gg_flat_tree.specs.Tree.{InstanceTree, instance_at, memory_at, parent_place}
 use Rattle.gg_flat_tree.specs.Scoped.{writers_at}
+use Rattle.gg_partfile.specs.declared.request.BridgeEntry.{BridgeEntry}
+use Rattle.gg_cut_plan.specs.Ports.{ports_of, giver_of}
+use Rattle.gg_cut_plan.proofs.PortLemmas.{giver-low}
 use Rattle.gg_cut_plan.specs.declared.listed.Listed.{Listed}
 use Rattle.gg_cut_plan.specs.declared.wires.Wire.{Wire as Link}
 use Rattle.gg_cut_plan.specs.Listed.{owner_of, owner_of_instance}
-use Rattle.gg_cut_plan.specs.Machines.{first_memory, first_source, first_tray}
-use Rattle.gg_cut_plan.specs.Channels.{wire, numbered, flattened, port_wire, port_wires, reader_wires, writer_wires, field_wires, source_wires, tray_wires, wires_of}
+use Rattle.gg_cut_plan.specs.Machines.{first_memory}
+use Rattle.gg_cut_plan.specs.Channels.{wire, numbered, flattened, port_wire, port_wires, reader_wires, writer_wires, field_wires, input_wires, output_wires, wires_of}
 use Rattle.gg_cut_plan.specs.Direct.{hub_of, routes}
 use Rattle.gg_cut_plan.specs.Plan.{wire_at, channels_to, channels_from, signals_of}
 use Rattle.gg_cut_plan.proofs.WireLemmas.{Each, Each-append, Each-numbered, filter-none, signals-from, signals-to, unit_or_hub-below}
@@ -119,7 +122,7 @@ module _ (m outside : ℕ) where
 
 -- ---- a listed memory
 
-module _ (circuit : FlatCircuit) (tree : InstanceTree) (listed : Listed) (m i : ℕ) (lt : i < length listed.memories) (is : first_memory listed + i ≡ m) (apart : (k : ℕ) → k < length circuit.outs → owner_of circuit tree listed (value_at circuit.outs k) ≢ m) where
+module _ (circuit : FlatCircuit) (tree : InstanceTree) (listed : Listed) (entries : List BridgeEntry) (m i : ℕ) (lt : i < length listed.memories) (is : first_memory listed + i ≡ m) (apart : (k : ℕ) → k < length circuit.outs → owner_of circuit tree listed (value_at circuit.outs k) ≢ m) where
   abbrev own : ℕ
   own = (memory_at tree (value_at listed.memories i)).memory
 
@@ -127,7 +130,7 @@ module _ (circuit : FlatCircuit) (tree : InstanceTree) (listed : Listed) (m i : 
   below k same = let low = unit_or_hub-below tree listed.units k in omega (arith, low, same, is)
 
   abbrev sources : List Link
-  sources = numbered source_wires (first_source listed) circuit.ins
+  sources = numbered (input_wires (ports_of circuit tree listed entries)) 0 circuit.ins
 
   abbrev ports : List Link
   ports = numbered (port_wires tree listed.units) 1 listed.units
@@ -136,25 +139,28 @@ module _ (circuit : FlatCircuit) (tree : InstanceTree) (listed : Listed) (m i : 
   fields = numbered (field_wires circuit tree listed.units) (first_memory listed) listed.memories
 
   abbrev trays : List Link
-  trays = numbered (tray_wires circuit tree listed) (first_tray circuit listed) circuit.outs
+  trays = numbered (output_wires circuit tree listed (ports_of circuit tree listed entries)) 0 circuit.outs
 
   abbrev gives : Link → Bool
   gives w = w.producer == m
 
   no-source : filter gives sources ≡ []
-  no-source = filter-none gives sources (Each-numbered (λ w. gives w ≡ false) source_wires (first_source listed) circuit.ins (λ k s le high. (ne_eqb k m (λ same. omega (arith, same, le, is, lt)), tt)))
+  no-source =
+      filter-none gives sources
+      (Each-numbered (λ w. gives w ≡ false) (input_wires (ports_of circuit tree listed entries)) 0 circuit.ins
+      (λ k s le high. (ne_eqb (giver_of (ports_of circuit tree listed entries) k) m (λ same. let low = giver-low (ports_of circuit tree listed entries) k in omega (arith, same, low, is, lt)), tt)))
 
   no-port : filter gives ports ≡ []
   no-port =
       filter-none gives ports (Each-numbered (λ w. gives w ≡ false) (port_wires tree listed.units) 1 listed.units (λ k unit le high.
       port-other m (owner_of_instance tree listed.units (parent_place (instance_at tree unit).parent)) (below (parent_place (instance_at tree unit).parent)) k (λ same. omega (arith, same, high, is)) (instance_at tree unit).ports))
 
-  each-tray : (k : ℕ) (outs : List ℕ) → ((i : ℕ) → i < length outs → owner_of circuit tree listed (value_at outs i) ≢ m) → Each (λ w. gives w ≡ false) (numbered (tray_wires circuit tree listed) k outs)
+  each-tray : (k : ℕ) (outs : List ℕ) → ((i : ℕ) → i < length outs → owner_of circuit tree listed (value_at outs i) ≢ m) → Each (λ w. gives w ≡ false) (numbered (output_wires circuit tree listed (ports_of circuit tree listed entries)) k outs)
   each-tray k [] other = tt
   each-tray k (s ∷ outs) other = (ne_eqb (owner_of circuit tree listed s) m (other 0 (omega arith)), each-tray (suc k) outs (λ i lt. other (suc i) (omega (arith, lt))))
 
   no-tray : filter gives trays ≡ []
-  no-tray = filter-none gives trays (each-tray (first_tray circuit listed) circuit.outs apart)
+  no-tray = filter-none gives trays (each-tray 0 circuit.outs apart)
 
   other-memory : (k j : ℕ) → (k ≡ first_memory listed + i → ⊥) → Each (λ w. gives w ≡ false) (field_wires circuit tree listed.units k j)
   other-memory k j distinct =
@@ -178,10 +184,10 @@ module _ (circuit : FlatCircuit) (tree : InstanceTree) (listed : Listed) (m i : 
       ∙ readers-give m outer inside (readers_at circuit own)
 
   -- the signals of the channels that the memory gives are the data of its readers
-  pub memory-gives : signals_of (wires_of circuit tree listed) (channels_from (wires_of circuit tree listed) m) ≡ map (λ (reader : Reader). reader.word) (readers_at circuit own)
+  pub memory-gives : signals_of (wires_of circuit tree listed entries) (channels_from (wires_of circuit tree listed entries) m) ≡ map (λ (reader : Reader). reader.word) (readers_at circuit own)
   memory-gives =
       let words = map (λ (reader : Reader). wire reader.word m outer) (readers_at circuit own) in
-      signals-from (wires_of circuit tree listed) m
+      signals-from (wires_of circuit tree listed entries) m
       ∙ ap (map (λ (w : Link). w.signal))
       (filter-append gives sources (ports ++ (fields ++ trays))
       ∙ ap₂ (λ (xs ys : List Link). xs ++ ys) no-source
@@ -197,20 +203,20 @@ module _ (circuit : FlatCircuit) (tree : InstanceTree) (listed : Listed) (m i : 
       ∙ map-map (λ (w : Link). w.signal) (λ (reader : Reader). wire reader.word m outer) (readers_at circuit own)
 
 -- a listed memory has no more ports than there are routed channels
-pub memory-few : (circuit : FlatCircuit) (tree : InstanceTree) (listed : Listed) (piped driven : ℕ → Bool) (direct : Bool) → IsBase (hub_of circuit tree listed piped driven direct) → (i : ℕ) → i < length listed.memories
-    → length (readers_at circuit (memory_at tree (value_at listed.memories i)).memory) + length (writers_at circuit (memory_at tree (value_at listed.memories i)).memory) ≤ length (routes (hub_of circuit tree listed piped driven direct))
-memory-few circuit tree listed piped driven direct base i lt =
-    let hub = hub_of circuit tree listed piped driven direct in
+pub memory-few : (circuit : FlatCircuit) (tree : InstanceTree) (listed : Listed) (piped : ℕ → Bool) (entries : List BridgeEntry) (direct : Bool) → IsBase (hub_of circuit tree listed piped entries direct) → (i : ℕ) → i < length listed.memories
+    → length (readers_at circuit (memory_at tree (value_at listed.memories i)).memory) + length (writers_at circuit (memory_at tree (value_at listed.memories i)).memory) ≤ length (routes (hub_of circuit tree listed piped entries direct))
+memory-few circuit tree listed piped entries direct base i lt =
+    let hub = hub_of circuit tree listed piped entries direct in
     let own = (memory_at tree (value_at listed.memories i)).memory in
     let outside = owner_of_instance tree listed.units (memory_at tree (value_at listed.memories i)).instance in
     let m = first_memory listed + i in
     let to : Link → Bool = λ w. w.consumer == m in
     let from_readers = flattened (reader_wires outside m) (readers_at circuit own) in
     let from_writers = flattened (writer_wires outside m) (writers_at circuit own) in
-    let sources = numbered source_wires (first_source listed) circuit.ins in
+    let sources = numbered (input_wires (ports_of circuit tree listed entries)) 0 circuit.ins in
     let ports = numbered (port_wires tree listed.units) 1 listed.units in
     let fields = numbered (field_wires circuit tree listed.units) (first_memory listed) listed.memories in
-    let trays = numbered (tray_wires circuit tree listed) (first_tray circuit listed) circuit.outs in
+    let trays = numbered (output_wires circuit tree listed (ports_of circuit tree listed entries)) 0 circuit.outs in
     let taken : length (channels_to (routes hub) m) ≡ length (filter to (sources ++ (ports ++ (fields ++ trays)))) =
     sym (length-map (channels_to (routes hub) m) (λ c. (wire_at (routes hub) c).signal))
     ∙ ap length (ins-still hub base m (λ same. omega (arith, same)) ∙ signals-to hub.base m)

@@ -27,7 +27,7 @@ use Rattle.gg_cut_plan.specs.declared.listed.Listed.{Listed}
 use Rattle.gg_cut_plan.specs.declared.wires.Wire.{Wire}
 use Rattle.gg_cut_plan.specs.Listed.{listed_of}
 use Rattle.gg_cut_plan.specs.Channels.{wire, wires_of}
-use Rattle.gg_cut_plan.specs.Seated.{plan_wires}
+use Rattle.gg_cut_plan.specs.Direct.{plan_wires}
 use Rattle.gg_cut_plan.proofs.WorkedPair.{input, output}
 use Rattle.gg_cut_reference.specs.text.CheckText.{AreChannelNeeds, IsPathInside, NeedsChannel}
 use Rattle.gg_net.specs.Refusal.{Turn}

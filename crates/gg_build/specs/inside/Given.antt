@@ -9,10 +9,10 @@ use Rattle.gg_cut_plan.specs.declared.plan.Body.{Body}
 use Rattle.gg_cut_plan.specs.declared.plan.Plan.{Plan}
 use Rattle.gg_cut_plan.specs.declared.wires.Wire.{Wire}
 use Rattle.gg_cut_plan.specs.Bridges.{Models}
-use Rattle.gg_cut_plan.specs.Direct.{Hub, plan_hub, plan_routes}
+use Rattle.gg_cut_plan.specs.Direct.{Hub, plan_hub, plan_wires}
 use Rattle.gg_cut_plan.specs.Listed.{listed_of}
 use Rattle.gg_cut_plan.specs.Plan.{IsBody}
-use Rattle.gg_cut_plan.specs.Seated.{Bridges, plan_bridges, plan_wires}
+use Rattle.gg_cut_plan.specs.Ports.{Bridges, plan_bridges}
 use Rattle.gg_cut_reference.specs.Follows.{plan_token}
 use Rattle.gg_cut_reference.specs.Made.{plan_reference}
 use Rattle.gg_cut_reference.specs.inside.Whole.{reference_rows}
@@ -25,8 +25,6 @@ pub record CutNames : Type 0 where
   pub listed : Listed
   pub hub : Hub
   pub bridges : Bridges
-  -- the channels between the machines of the cut, which has a source for each input and a tray for each output
-  pub base : List Wire
   -- the channels between the plan's machines
   pub wires : List Wire
 
@@ -37,7 +35,6 @@ cut_of design request =
       listed = listed_of design.tree request;
       hub = plan_hub design.circuit design.tree request;
       bridges = plan_bridges design.circuit design.tree request;
-      base = plan_routes design.circuit design.tree request;
       wires = plan_wires design.circuit design.tree request;
     }
 

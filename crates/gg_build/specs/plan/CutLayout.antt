@@ -15,8 +15,8 @@ use Rattle.gg_cut_plan.specs.declared.wires.Wire.{Wire}
 use Rattle.gg_cut_plan.specs.Listed.{first_place, listed_of}
 use Rattle.gg_cut_plan.specs.Machines.{first_memory, is_memory}
 use Rattle.gg_cut_plan.specs.Channels.{capacity_of}
-use Rattle.gg_cut_plan.specs.Direct.{is_piped}
-use Rattle.gg_cut_plan.specs.Seated.{machine_end, plan_bridges, plan_wires}
+use Rattle.gg_cut_plan.specs.Direct.{is_piped, plan_wires}
+use Rattle.gg_cut_plan.specs.Ports.{machine_end, plan_bridges}
 use Rattle.gg_cut_plan.specs.Plan.{wire_at}
 use Rattle.gg_cut_reference.specs.text.CheckText.{AreChannelNeeds, channel_name}
 use Rattle.gg_node.specs.Machine.{Port}

@@ -17,14 +17,14 @@ use Rattle.gg_cut_plan.specs.declared.plan.Machine.{Machine}
 use Rattle.gg_cut_plan.specs.declared.wires.Wire.{Wire}
 use Rattle.gg_cut_plan.specs.Alike.{AreAlike}
 use Rattle.gg_cut_plan.specs.Bridges.{Models, bridge_faults}
-use Rattle.gg_cut_plan.specs.Direct.{Hub, is_driven, is_piped, plan_hub}
+use Rattle.gg_cut_plan.specs.Direct.{Hub, is_piped, plan_hub, plan_wires}
 use Rattle.gg_cut_plan.specs.Fault.{IsSmall, first_fault}
 use Rattle.gg_cut_plan.specs.Held.{AreHeldOnce}
 use Rattle.gg_cut_plan.specs.Hosts.{host_of, leader}
 use Rattle.gg_cut_plan.specs.Listed.{listed_of}
 use Rattle.gg_cut_plan.specs.Machines.{first_memory}
 use Rattle.gg_cut_plan.specs.Plan.{IsBody, channels_from, channels_to, entry_at, machine_names, port_place, wire_at}
-use Rattle.gg_cut_plan.specs.Seated.{Bridges, first_bridge, first_kept_tray, machine_end, plan_bridges, plan_wires, undriven, unseen}
+use Rattle.gg_cut_plan.specs.Ports.{Bridges, first_bridge, first_kept_tray, machine_end, plan_bridges, undriven, unseen}
 use Rattle.gg_cut_split.specs.inside.Apart.{AreApart}
 use Rattle.gg_cut_split.proofs.ClosedLemmas.FaultlessLemmas.{faultless-apart, faultless-few}
 use Rattle.gg_cut_split.specs.inside.Again.{IsUnitAgain}
@@ -42,7 +42,7 @@ use Rattle.gg_cut.proofs.AlikeLemmas.{machines-made, machines-more, machines-non
 use Rattle.gg_cut.proofs.BodyLemmas.{bridge-made, source-made, tray-made}
 use Rattle.gg_cut_machines.proofs.HostLemmas.{leader-below}
 use Rattle.gg_cut_machines.proofs.LeaderLemmas.{leaders-first}
-use Rattle.gg_cut_machines.proofs.SeatLemmas.{before-few}
+use Rattle.gg_cut_plan.proofs.CountLemmas.{before-few}
 use Rattle.gg_cut_parts.proofs.RoutedLemmas.{plan-unit-routed}
 use Rattle.gg_cut.proofs.ExistenceLemmas.BodyLemmas.{HasCutPart, like-part, part-for}
 use Rattle.gg_cut.proofs.ExistenceLemmas.ClockLemmas.{unit-clocks}
@@ -70,7 +70,7 @@ module _ (design : Ordered) (request : Request) (models : Models) (is : IsDesign
   apart : AreApart design.tree listed
   apart = faultless-apart design request none keeps.fitting
 
-  routed : AreRoutes design listed hub
+  routed : AreRoutes design listed request.bridges hub
   routed = plan-routed design request is keeps none
 
   -- a request without a fault asks for few machines
@@ -83,7 +83,7 @@ module _ (design : Ordered) (request : Request) (models : Models) (is : IsDesign
       omega (arith, cut, sources, trays, asked)
 
   share : (m : ℕ) → HasShare design listed hub m
-  share m = plan-share design listed (is_piped design.circuit request) (is_driven design.circuit request) request.direct is keeps apart routed m
+  share m = plan-share design listed (is_piped design.circuit request) request.bridges request.direct is keeps apart routed m
 
   unit-routed : (m : ℕ) → m ≢ 0 → IsUnitRouted design listed hub m
   unit-routed m some = plan-unit-routed design request listed refl is keeps apart m some

@@ -17,18 +17,17 @@ use Rattle.gg_cut_plan.specs.declared.wires.Wire.{Wire}
 use Rattle.gg_cut_plan.specs.Bridges.{Models}
 use Rattle.gg_cut_plan.specs.Channels.{capacity_of, wire}
 use Rattle.gg_cut_plan.specs.Clocks.{ratios_of}
-use Rattle.gg_cut_plan.specs.Direct.{is_piped, plan_hub}
+use Rattle.gg_cut_plan.specs.Direct.{is_piped, plan_hub, plan_wires}
 use Rattle.gg_cut_plan.specs.Fault.{IsSmall, first_fault, first_fault_with}
 use Rattle.gg_cut_plan.specs.Held.{AreHeldOnce}
 use Rattle.gg_cut_plan.specs.Listed.{listed_of}
 use Rattle.gg_cut_plan.specs.Plan.{IsPlan, wire_at}
-use Rattle.gg_cut_plan.specs.Seated.{plan_wires}
 use Rattle.gg_cut_plan.proofs.WholeFaultLemmas.{faultless-bridges, faultless-others}
 use Rattle.gg_cut_routes.specs.inside.Routes.{AreRoutes}
 use Rattle.gg_cut_routes.proofs.RoutedLemmas.{plan-routed}
 use Rattle.gg_cut.specs.inside.Made.{AreChannels, AreMachines, IsWired}
 use Rattle.gg_cut.proofs.PlanLemmas.{channels-made, machine-fit}
-use Rattle.gg_cut_machines.proofs.WireLemmas.{given-below, seated-known}
+use Rattle.gg_cut_machines.proofs.WireLemmas.{given-below}
 use Rattle.gg_cut.proofs.ExistenceLemmas.FilledLemmas.{IsFilled, Something, filled}
 use Rattle.gg_cut.proofs.ExistenceLemmas.MachineLemmas.{machines-there}
 use Rattle.gg_cut.proofs.ExistenceLemmas.ToldLemmas.{HasTable, table-there}
@@ -43,7 +42,7 @@ module _ (design : Ordered) (request : Request) (models : Models) (default : ℕ
   abbrev capacity : List ℕ → ℕ
   capacity = capacity_of request.capacity default
 
-  routed : AreRoutes design listed (plan_hub design.circuit design.tree request)
+  routed : AreRoutes design listed request.bridges (plan_hub design.circuit design.tree request)
   routed = plan-routed design request is keeps none
 
   given : (c : ℕ) → c < length wires → (wire_at wires c).producer < length machines
@@ -60,7 +59,7 @@ module _ (design : Ordered) (request : Request) (models : Models) (default : ℕ
   channel-there : (c : ℕ) → c < length wires → Something ChannelFor c
   channel-there c lt =
       let w = wire_at wires c in
-      let known = seated-known design request listed refl routed c (wire 0 0 0) lt in
+      let known = routed.known c (wire 0 0 0) lt in
       let some = some-item design.circuit.signals w.signal known in
       let channel : Channel =
       record {

@@ -1,5 +1,5 @@
 -- Each machine of a plan has a share: its signals, along the order, and its memories.
-use Rattle.std.proofs.Common.{◌≡◌, ℕ, List, Bool, false, length, map, refl, sym, subst, inl, inr, ◌⊎◌, arith}
+use Rattle.std.proofs.Common.{◌≡◌, ℕ, List, [], Bool, false, length, map, refl, sym, subst, inl, inr, ◌⊎◌, arith}
 use Rattle.std.specs.Prelude.{AllPairs, Contains, filter}
 use Rattle.std.specs.List.{range_with_len}
 use Rattle.std.proofs.lemmas.Bool.{cases_eq}
@@ -11,6 +11,7 @@ use Rattle.gg_flat.proofs.ListLemmas.{Contains-filter, Contains-map, filter-case
 use Rattle.gg_part.specs.KeepsToTree.{KeepsToTree}
 use Rattle.gg_order.specs.Design.{IsDesign, Ordered}
 use Rattle.gg_flat.specs.inside.InOrder.{Precedes}
+use Rattle.gg_partfile.specs.declared.request.BridgeEntry.{BridgeEntry}
 use Rattle.gg_cut_plan.specs.declared.listed.Listed.{Listed}
 use Rattle.gg_cut_plan.specs.declared.wires.Wire.{Wire}
 use Rattle.gg_cut_plan.specs.Channels.{wire, wires_of}
@@ -42,7 +43,7 @@ in-turn order i j d less lt =
 
 module _ (design : Ordered) (listed : Listed) (is : IsDesign design) (keeps : KeepsToTree design.circuit design.tree) (apart : AreApart design.tree listed) where
   abbrev wires : List Wire
-  wires = wires_of design.circuit design.tree listed
+  wires = wires_of design.circuit design.tree listed []
 
   -- whether a channel carries a signal
   inner : (s : ℕ) → Decided (IsInner wires s)
@@ -62,12 +63,12 @@ module _ (design : Ordered) (listed : Listed) (is : IsDesign design) (keeps : Ke
   abbrev signals_for : ℕ → List ℕ
   signals_for m = filter (λ s. holds (gets m s)) design.order
 
-  signals-for : (m : ℕ) → AreSignals design.circuit design.tree design.order listed m (signals_for m)
+  signals-for : (m : ℕ) → AreSignals design.circuit design.tree design.order listed [] m (signals_for m)
   signals-for m =
       record {
         just = λ s. (
           λ h. holds-true (gets m s) (filter-cases (λ t. holds (gets m t)) design.order s h).passes,
-          λ has. Contains-filter (λ t. holds (gets m t)) design.order s (is.ordered.every s (gets-known design.circuit design.tree listed is.formed keeps.fitting keeps.scoped apart m s has)) (true-holds (gets m s) has),
+          λ has. Contains-filter (λ t. holds (gets m t)) design.order s (is.ordered.every s (gets-known design.circuit design.tree listed [] is.formed keeps.fitting keeps.scoped apart m s has)) (true-holds (gets m s) has),
         );
         along = AllPairs-filter (λ a b. Precedes design.order a b) (λ s. holds (gets m s)) design.order (in-turn design.order);
       }
@@ -83,12 +84,12 @@ module _ (design : Ordered) (listed : Listed) (is : IsDesign design) (keeps : Ke
 
   share-of : (m : ℕ) → IsShareOf design listed wires m (channels_to wires m) (channels_from wires m) (signals_for m) (memories_for m)
   share-of m =
-      shared design.circuit design.tree design.order listed is.formed keeps.fitting keeps.scoped is.ordered apart m (channels_to wires m) (channels_from wires m) (signals_for m) (memories_for m)
+      shared design.circuit design.tree design.order listed [] is.formed keeps.fitting keeps.scoped is.ordered apart m (channels_to wires m) (channels_from wires m) (signals_for m) (memories_for m)
       refl refl (signals-for m) (memories-for m)
 
-  module _ (piped driven : ℕ → Bool) (direct : Bool) (are : AreRoutes design listed (hub_of design.circuit design.tree listed piped driven direct)) where
+  module _ (piped : ℕ → Bool) (entries : List BridgeEntry) (direct : Bool) (are : AreRoutes design listed entries (hub_of design.circuit design.tree listed piped entries direct)) where
     abbrev hub : Hub
-    hub = hub_of design.circuit design.tree listed piped driven direct
+    hub = hub_of design.circuit design.tree listed piped entries direct
 
     abbrev gone : List Bool
     gone = map (is_gone hub) (range_with_len 0 (length design.circuit.signals))
@@ -101,7 +102,7 @@ module _ (design : Ordered) (listed : Listed) (is : IsDesign design) (keeps : Ke
             record {
               globals = filter (stays_by (routes hub) gone) (signals_for 0);
               memories = memories_for 0;
-              is = hub-plan-share design listed piped driven direct is keeps apart are gone (channels_to wires 0) (channels_from wires 0) (signals_for 0) (memories_for 0)
+              is = hub-plan-share design listed piped entries direct is keeps apart are gone (channels_to wires 0) (channels_from wires 0) (signals_for 0) (memories_for 0)
                   (λ s lt. get_or-map-range_with_len (is_gone hub) 0 (length design.circuit.signals) s s false lt (omega arith)) (share-of 0);
             }
 
@@ -111,9 +112,9 @@ module _ (design : Ordered) (listed : Listed) (is : IsDesign design) (keeps : Ke
             record {
               globals = signals_for m;
               memories = memories_for m;
-              is = other-plan-share design listed piped driven direct is keeps apart are m (channels_to wires m) (channels_from wires m) (signals_for m) (memories_for m) some (share-of m);
+              is = other-plan-share design listed piped entries direct is keeps apart are m (channels_to wires m) (channels_from wires m) (signals_for m) (memories_for m) some (share-of m);
             }
 
-pub plan-share : (design : Ordered) (listed : Listed) (piped driven : ℕ → Bool) (direct : Bool) → IsDesign design → KeepsToTree design.circuit design.tree → AreApart design.tree listed → AreRoutes design listed (hub_of design.circuit design.tree listed piped driven direct)
-    → (m : ℕ) → HasShare design listed (hub_of design.circuit design.tree listed piped driven direct) m
-plan-share design listed piped driven direct is keeps apart are m = share-there design listed is keeps apart piped driven direct are m
+pub plan-share : (design : Ordered) (listed : Listed) (piped : ℕ → Bool) (entries : List BridgeEntry) (direct : Bool) → IsDesign design → KeepsToTree design.circuit design.tree → AreApart design.tree listed → AreRoutes design listed entries (hub_of design.circuit design.tree listed piped entries direct)
+    → (m : ℕ) → HasShare design listed (hub_of design.circuit design.tree listed piped entries direct) m
+plan-share design listed piped entries direct is keeps apart are m = share-there design listed is keeps apart piped entries direct are m

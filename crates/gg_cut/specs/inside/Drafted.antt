@@ -20,7 +20,7 @@ use Rattle.gg_cut_parts.specs.declared.machine_draft.MachineDraft.{MachineDraft}
 use Rattle.gg_cut_parts.specs.inside.Domains.{AreDomains}
 use Rattle.gg_cut_parts.specs.inside.Draft.{draft_hub, IsDraft, IsDraftPart}
 use Rattle.gg_cut_machines.specs.declared.places.Places.{Places}
-use Rattle.gg_cut_machines.specs.inside.Drafted.{draft_wires, AreDraftPlaces, AreDraftSeats}
+use Rattle.gg_cut_machines.specs.inside.Drafted.{draft_wires, AreDraftPlaces}
 use Rattle.gg_cut.specs.declared.making.Making.{Making}
 use Rattle.gg_cut.specs.inside.Made.{IsMadeBody, AreChannels, AreMachines, AreMachinesTo}
 
@@ -61,7 +61,6 @@ pub record IsPlaced (places : Places) (m : ℕ) (does : Body) (machine : Machine
 -- what the machines of a draft are made from
 pub record IsMaking (making : Making) : Type 0 where
   pub draft : IsDraft making.draft.now
-  pub seats : AreDraftSeats making.draft.now making.seats.now
   pub places : AreDraftPlaces making.draft.now making.places.now
   pub domains : AreDomains making.draft.now.design.now making.draft.now.listed making.domains.now
   pub hub : (any : Share) → making.hub.now ≡ filter (stays_by making.draft.now.routed.wires making.draft.now.routed.gone) (slice_index_or making.draft.now.split.shares 0 any).globals

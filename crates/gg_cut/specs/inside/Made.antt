@@ -25,7 +25,7 @@ use Rattle.gg_cut_plan.specs.Alike.{AreAlike}
 use Rattle.gg_cut_plan.specs.Hosts.{leader}
 use Rattle.gg_cut_plan.specs.Machines.{first_unit, first_memory}
 use Rattle.gg_cut_plan.specs.Plan.{wire_at, channels_to, channels_from, signals_of, givens_of, IsBody, IsMachine, AreNeedsOf, NeedsIn, IsChannel}
-use Rattle.gg_cut_plan.specs.Seated.{machine_end, plan_bridges}
+use Rattle.gg_cut_plan.specs.Ports.{machine_end, plan_bridges}
 
 -- the memories of a part are ascending
 abbrev pub HasAscending : Body → Type 0

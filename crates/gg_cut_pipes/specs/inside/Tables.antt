@@ -1,6 +1,6 @@
 -- Who names what, by tables.
 -- Source: this program's profile.
-use Rattle.std.specs.Prelude.{◌≡◌, ℕ, ◌<◌, List, ◌==◌, if◌then◌else◌, ◌+◌, ◌^◌, ◌≢◌, length, map, filter, replicate, slice_set, All, AllPairs}
+use Rattle.std.specs.Prelude.{◌≡◌, ℕ, ◌<◌, List, ◌==◌, if◌then◌else◌, ◌+◌, ◌^◌, ◌≢◌, [], length, map, filter, replicate, slice_set, All, AllPairs}
 use Rattle.std.specs.List.{list_any, range_with_len}
 use Rattle.gg_flat.specs.declared.piece.Driver.{Driver}
 use Rattle.gg_flat.specs.declared.piece.Driver.TheVariants.{Input, Held, MemoryWord, ReadRegister, Computed}
@@ -72,7 +72,7 @@ piped_signals count channels = filter (λ s. list_any (λ place. s == place) (pi
 
 -- the channels of a cut, and the owners of its signals and memories
 pub record AreOwned (design : Ordered) (listed : Listed) (owned : Owned) : Type 0 where
-  pub wires : owned.wires ≡ wires_of design.circuit design.tree listed
+  pub wires : owned.wires ≡ wires_of design.circuit design.tree listed []
   pub count : length owned.signals ≡ length design.circuit.signals
   pub signals : (s : ℕ) → s < length design.circuit.signals → IsInner owned.wires s → value_at owned.signals s ≡ owner_of design.circuit design.tree listed s
   pub memories : (place : ℕ) → place < length design.tree.memories → value_at owned.memories place ≡ memory_owner design.tree listed place

@@ -1,7 +1,7 @@
 -- More on Bridges: what no promise of the program reaches.
 -- Source: ICCAD 2019 (bridges: models in the host's own code that stand at a target's ports); the numbers of faults and their order
 -- are this program's own.
-use Rattle.std.specs.Prelude.{◌≡◌, ℕ, All, ◌<◌, List, Bool, length, ◌-◌}
+use Rattle.std.specs.Prelude.{◌≡◌, ℕ, All, ◌<◌, List, Bool, length}
 use Rattle.gg_flat.specs.Circuit.{FlatCircuit}
 use Rattle.gg_cut_plan.specs.inside.Listed.{AreMarks}
 

@@ -1,22 +1,19 @@
 -- The names of the plan's machines by their numbers.
-use Rattle.std.proofs.Common.{◌≡◌, ℕ, zero, suc, ◌+◌, ◌-◌, ◌<◌, ◌≤◌, List, [], ◌++◌, length, map, codes, get_or, take, drop, true, refl, sym, ◌∙◌, ap, inl, inr, ◌⊎◌, arith}
-use Rattle.std.proofs.lemmas.Bool.{cases_lt}
+use Rattle.std.proofs.Common.{◌≡◌, ℕ, suc, ◌+◌, ◌-◌, ◌<◌, ◌≤◌, List, [], ◌++◌, None, length, map, codes, get_or, take, drop, sym, ◌∙◌, ap, arith}
+use Rattle.std.specs.Prelude.{is_none}
 use Rattle.std.proofs.lemmas.List.{get_or-append-add, get_or-drop, get_or-map, get_or_append_left, length-append, length-map, length-take-le, take-append-drop}
+use Rattle.gg_flat.specs.Line.{value_at}
 use Rattle.gg_flat_tree.specs.Tree.{path_at}
 use Rattle.gg_order.specs.Design.{Ordered}
 use Rattle.gg_partfile.specs.declared.request.BridgeEntry.{BridgeEntry}
 use Rattle.gg_partfile.specs.declared.request.Request.{Request}
 use Rattle.gg_cut_plan.specs.declared.listed.Listed.{Listed}
 use Rattle.gg_cut_plan.specs.Listed.{listed_of, instance_of}
-use Rattle.gg_cut_plan.specs.inside.Plan.{cut_names, tray_names}
 use Rattle.gg_cut_plan.specs.Plan.{entry_at, machine_names, open_tray_names}
-use Rattle.gg_cut_plan.specs.Seated.{Bridges, undriven, unseen, first_bridge, machine_end, open_ins, open_outs, output_count, plan_bridges, seat_of}
-use Rattle.gg_cut_plan.specs.inside.Seated.{AreBridges, IsKept}
+use Rattle.gg_cut_plan.specs.Ports.{Bridges, undriven, unseen, first_bridge, giver_of, keeper_of, machine_end, open_ins, open_outs, output_count, plan_bridges}
 use Rattle.gg_bits.specs.Lists.{count_below}
-use Rattle.gg_cut_plan.proofs.TrayLemmas.{out-tray, halt-tray}
-use Rattle.gg_cut_reference.proofs.FittingLemmas.BridgeLemmas.{are-bridges}
+use Rattle.gg_cut_plan.proofs.PortLemmas.{giver-open, keeper-open, tray-few}
 use Rattle.gg_cut_reference.proofs.FittingLemmas.OpenLemmas.{ins-count, in-place, outs-count, out-place, stop-before}
-use Rattle.gg_cut_reference.proofs.FittingLemmas.SeatedLemmas.{Seat, low, source, tray, bridge, seat-kind}
 
 -- ---- three lists
 
@@ -41,9 +38,6 @@ module _ (design : Ordered) (request : Request) where
   abbrev bridges : Bridges
   bridges = plan_bridges design.circuit design.tree request
 
-  are : AreBridges bridges
-  are = are-bridges design.circuit (output_count design) listed request.bridges
-
   abbrev in_name : ℕ → List ℕ
   in_name s = codes "in:" ++ path_at design.circuit.paths s
 
@@ -64,9 +58,6 @@ module _ (design : Ordered) (request : Request) where
 
   abbrev trays : List (List ℕ)
   trays = open_tray_names design request
-
-  abbrev all_sources : List (List ℕ)
-  all_sources = map in_name design.circuit.ins
 
   abbrev outs : List ℕ
   outs = open_outs design.circuit (output_count design) request
@@ -106,66 +97,55 @@ module _ (design : Ordered) (request : Request) where
       ∙ get_or-append-add (units ++ sources ++ trays) (map bridge_name request.bridges) k []
       ∙ get_or-map bridge_name request.bridges k (record { name = []; sees = []; drives = [] }) [] lt
 
-  -- the name of the tray of an out-signal that no bridge sees
-  tray-named : (p : ℕ) → p < length design.circuit.outs → unseen bridges p ≡ true → path_at trays (count_below (unseen bridges) p) ≡ path_at (tray_names design) p
-  tray-named p lt keeps = by (cases_lt p (output_count design))
-    where
-      by : (p < output_count design) ⊎ (output_count design ≤ p) → path_at trays (count_below (unseen bridges) p) ≡ path_at (tray_names design) p
-      by (inl less) =
-          let at = out-place design.circuit design.tree request p less keeps in
-          get_or_append_left (map out_name outs) (map halt_name stops) [] (count_below (unseen bridges) p) (let within = at.within in omega (arith, within, length-map outs out_name))
-          ∙ get_or-map out_name outs (count_below (unseen bridges) p) 0 [] at.within
-          ∙ ap out_name at.is
-          ∙ out-tray design p less
-      by (inr ge) =
-          let k : ℕ = p - output_count design in
-          let whole : output_count design + k ≡ p = omega (arith, ge) in
-          let counted = length-take-le (output_count design) design.circuit.outs (omega arith) in
-          let both = sym (length-append (take (output_count design) design.circuit.outs) stops) ∙ ap length (take-append-drop (output_count design) design.circuit.outs) in
-          let inside : k < length stops = omega (arith, lt, ge, counted, both) in
-          let place : length outs + k ≡ length (map out_name outs) + k = omega (arith, length-map outs out_name) in
-          ap (λ q. path_at trays (count_below (unseen bridges) q)) (sym whole)
-          ∙ ap (path_at trays) (stop-before design.circuit design.tree request k ∙ place)
-          ∙ get_or-append-add (map out_name outs) (map halt_name stops) k []
-          ∙ get_or-map halt_name stops k 0 [] inside
-          ∙ ap halt_name (get_or-drop (output_count design) design.circuit.outs k 0)
-          ∙ ap (λ q. halt_name (get_or design.circuit.outs q 0)) whole
-          ∙ halt-tray design p ge lt
+  -- the source of an input that no bridge drives
+  pub source-named : (p : ℕ) → p < length design.circuit.ins → bridges.driver p ≡ None → path_at (machine_names design request listed) (giver_of bridges p) ≡ codes "in:" ++ path_at design.circuit.paths (value_at design.circuit.ins p)
+  source-named p lt none =
+      let k = count_below (undriven bridges) p in
+      let placed = in-place design.circuit design.tree request p lt (ap is_none none) in
+      let within : k < length sources = let low = placed.within in omega (arith, low, length-map (open_ins design.circuit request) in_name) in
+      let number : giver_of bridges p ≡ suc (length units + k) = omega (arith, giver-open bridges p none, units-count) in
+      ap (path_at (machine_names design request listed)) number
+      ∙ at-front (length units + k) (omega (arith, within, length-append units sources, length-append (units ++ sources) trays))
+      ∙ at-source units sources trays k within
+      ∙ get_or-map in_name (open_ins design.circuit request) k 0 [] placed.within
+      ∙ ap in_name placed.is
 
-  -- a machine whose place no bridge takes keeps its name
-  pub kept-named : (m : ℕ) → m < bridges.first + bridges.ins + bridges.outs → IsKept bridges m → path_at (machine_names design request listed) (seat_of bridges m) ≡ path_at (cut_names design request listed) m
-  kept-named m lt kept = by (seat-kind bridges are m lt)
-    where
-      unit : (n : ℕ) → n < bridges.first → path_at (machine_names design request listed) n ≡ path_at (cut_names design request listed) n
-      unit zero less = refl
-      unit (suc n) less =
-          let inside : n < length units = omega (arith, less, units-count) in
-          at-front n (omega (arith, inside, length-append units sources, length-append (units ++ sources) trays))
-          ∙ at-unit units sources trays n inside
-          ∙ sym (at-unit units all_sources (tray_names design) n inside)
+  -- the name of the tray of an out-signal that no bridge sees is that at its place among the trays
+  at-keeper : (p : ℕ) → p < length design.circuit.outs → bridges.viewer p ≡ None → path_at (machine_names design request listed) (keeper_of bridges p) ≡ path_at trays (count_below (unseen bridges) p)
+  at-keeper p lt none =
+      let k = count_below (unseen bridges) p in
+      let number : keeper_of bridges p ≡ suc (length units + length sources + k) = omega (arith, keeper-open bridges p none, units-count, sources-count) in
+      ap (path_at (machine_names design request listed)) number
+      ∙ at-front (length units + length sources + k) (omega (arith, tray-few bridges p lt none, number, front-count))
+      ∙ at-tray units sources trays k
 
-      by : Seat bridges m → path_at (machine_names design request listed) (seat_of bridges m) ≡ path_at (cut_names design request listed) m
-      by (low less is) = ap (path_at (machine_names design request listed)) is ∙ unit m less
-      by (source p inside at keeps is) =
-          let placed = in-place design.circuit design.tree request p inside keeps in
-          let within : count_below (undriven bridges) p < length sources = let low = placed.within in omega (arith, low, length-map (open_ins design.circuit request) in_name) in
-          let number : seat_of bridges m ≡ suc (length units + count_below (undriven bridges) p) = omega (arith, is, units-count) in
-          let own : suc (length units + p) ≡ m = omega (arith, at, units-count) in
-          ap (path_at (machine_names design request listed)) number
-          ∙ at-front (length units + count_below (undriven bridges) p) (omega (arith, within, length-append units sources, length-append (units ++ sources) trays))
-          ∙ at-source units sources trays (count_below (undriven bridges) p) within
-          ∙ get_or-map in_name (open_ins design.circuit request) (count_below (undriven bridges) p) 0 [] placed.within
-          ∙ ap in_name placed.is
-          ∙ sym (get_or-map in_name design.circuit.ins p 0 [] inside)
-          ∙ sym (at-source units all_sources (tray_names design) p (omega (arith, inside, length-map design.circuit.ins in_name)))
-          ∙ ap (path_at (cut_names design request listed)) own
-      by (tray p inside at keeps is) =
-          let number : seat_of bridges m ≡ suc (length units + length sources + count_below (unseen bridges) p) = omega (arith, is, units-count, sources-count) in
-          let own : suc (length units + length all_sources + p) ≡ m = omega (arith, at, units-count, length-map design.circuit.ins in_name) in
-          ap (path_at (machine_names design request listed)) number
-          ∙ at-front (length units + length sources + count_below (unseen bridges) p) (omega (arith, kept, number, front-count))
-          ∙ at-tray units sources trays (count_below (unseen bridges) p)
-          ∙ tray-named p inside keeps
-          ∙ sym (at-tray units all_sources (tray_names design) p)
-          ∙ ap (path_at (cut_names design request listed)) own
-      by (bridge k inside is) = absurd (omega (arith, kept, is))
+  pub output-named : (p : ℕ) → p < length design.circuit.outs → p < output_count design → bridges.viewer p ≡ None → path_at (machine_names design request listed) (keeper_of bridges p) ≡ codes "out:" ++ path_at design.circuit.paths (value_at design.circuit.outs p)
+  output-named p lt less none =
+      let k = count_below (unseen bridges) p in
+      let placed = out-place design.circuit design.tree request p less (ap is_none none) in
+      at-keeper p lt none
+      ∙ get_or_append_left (map out_name outs) (map halt_name stops) [] k (let within = placed.within in omega (arith, within, length-map outs out_name))
+      ∙ get_or-map out_name outs k 0 [] placed.within
+      ∙ ap out_name placed.is
+
+  pub stop-named : (p : ℕ) → p < length design.circuit.outs → output_count design ≤ p → bridges.viewer p ≡ None → path_at (machine_names design request listed) (keeper_of bridges p) ≡ codes "halt:" ++ path_at design.circuit.paths (value_at design.circuit.outs p)
+  stop-named p lt ge none =
+      let k : ℕ = p - output_count design in
+      let whole : output_count design + k ≡ p = omega (arith, ge) in
+      let counted = length-take-le (output_count design) design.circuit.outs (omega arith) in
+      let both = sym (length-append (take (output_count design) design.circuit.outs) stops) ∙ ap length (take-append-drop (output_count design) design.circuit.outs) in
+      let inside : k < length stops = omega (arith, lt, ge, counted, both) in
+      let place : length outs + k ≡ length (map out_name outs) + k = omega (arith, length-map outs out_name) in
+      at-keeper p lt none
+      ∙ ap (λ q. path_at trays (count_below (unseen bridges) q)) (sym whole)
+      ∙ ap (path_at trays) (stop-before design.circuit design.tree request k ∙ place)
+      ∙ get_or-append-add (map out_name outs) (map halt_name stops) k []
+      ∙ get_or-map halt_name stops k 0 [] inside
+      ∙ ap halt_name (get_or-drop (output_count design) design.circuit.outs k 0)
+      ∙ ap (λ q. halt_name (get_or design.circuit.outs q 0)) whole
+
+  -- the hub, a unit or a listed memory
+  pub unit-named : (n : ℕ) → suc n < bridges.first → path_at (machine_names design request listed) (suc n) ≡ path_at (request.units ++ map (path_at design.tree.memory_paths) listed.memories) n
+  unit-named n less =
+      let inside : n < length units = omega (arith, less, units-count) in
+      at-front n (omega (arith, inside, length-append units sources, length-append (units ++ sources) trays)) ∙ at-unit units sources trays n inside

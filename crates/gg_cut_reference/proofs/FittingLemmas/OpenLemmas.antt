@@ -11,9 +11,9 @@ use Rattle.gg_partfile.specs.Size.{all_driven, all_seen}
 use Rattle.gg_partfile.specs.declared.request.BridgeEntry.{BridgeEntry}
 use Rattle.gg_partfile.specs.declared.request.Request.{Request}
 use Rattle.gg_cut_plan.specs.Listed.{is_among}
-use Rattle.gg_cut_plan.specs.Seated.{Bridges, undriven, unseen, lister, plan_bridges, open_ins, open_outs}
+use Rattle.gg_cut_plan.specs.Ports.{Bridges, undriven, unseen, lister, plan_bridges, open_ins, open_outs}
 use Rattle.gg_bits.specs.Lists.{count_below}
-use Rattle.gg_cut_reference.proofs.FittingLemmas.CountLemmas.{before-same, before-behind, filter-count, filter-place, IsAt}
+use Rattle.gg_cut_plan.proofs.CountLemmas.{before-same, before-behind, filter-count, filter-place, IsAt}
 
 none-more : (o : Option ℕ) → is_none (option_map suc o) ≡ is_none o
 none-more None = refl

@@ -12,7 +12,7 @@ use Rattle.gg_partfile.specs.declared.request.BridgeEntry.{BridgeEntry}
 use Rattle.gg_partfile.specs.declared.request.Request.{Request}
 use Rattle.gg_cut_plan.specs.Listed.{is_among}
 use Rattle.gg_cut_plan.specs.Plan.{entry_at}
-use Rattle.gg_cut_plan.specs.Seated.{lister, plan_bridges}
+use Rattle.gg_cut_plan.specs.Ports.{lister, plan_bridges}
 use Rattle.gg_cut_plan.proofs.PathLemmas.{first_place-Some, among-contains}
 use Rattle.gg_cut_reference.proofs.FittingLemmas.OpenLemmas.{lister-none}
 

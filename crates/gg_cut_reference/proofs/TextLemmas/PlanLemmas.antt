@@ -17,8 +17,8 @@ use Rattle.gg_partfile.specs.declared.request.Request.{Request}
 use Rattle.gg_cut_plan.specs.Machines.{first_source}
 use Rattle.gg_cut_plan.specs.Bridges.{Models}
 use Rattle.gg_cut_plan.specs.Channels.{capacity_of}
-use Rattle.gg_cut_plan.specs.Direct.{Hub, is_piped, plan_hub, plan_routes}
-use Rattle.gg_cut_plan.specs.Seated.{machine_end, plan_bridges, plan_wires}
+use Rattle.gg_cut_plan.specs.Direct.{Hub, is_piped, plan_hub, plan_wires}
+use Rattle.gg_cut_plan.specs.Ports.{machine_end, plan_bridges}
 use Rattle.gg_cut_plan.specs.Listed.{listed_of}
 use Rattle.gg_cut_plan.specs.Plan.{AreNeedsOf, IsBody, IsChannel, IsCutPart, IsMachine, IsNeed, IsPlan, NeedsIn, channels_from, channels_to, givens_of, signals_of, wire_at}
 use Rattle.gg_cut_plan.specs.declared.listed.Listed.{Listed}
@@ -28,7 +28,6 @@ use Rattle.gg_cut_plan.specs.declared.plan.Channel.{Channel}
 use Rattle.gg_cut_plan.specs.declared.plan.Machine.{Machine}
 use Rattle.gg_cut_plan.specs.declared.plan.Plan.{Plan}
 use Rattle.gg_cut_plan.specs.declared.wires.Wire.{Wire}
-use Rattle.gg_cut_reference.proofs.FittingLemmas.LowLemmas.{givens-alike, low-from, low-to, signals-alike}
 use Rattle.gg_cut_reference.specs.text.CheckText.{AreChannelNeeds, IsPathInside, NeedsChannel}
 use Rattle.gg_cut_reference.proofs.TextLemmas.NeedLemmas.{Gets, path-back, path-out}
 
@@ -82,17 +81,8 @@ record IsPartOn (design : Ordered) (wires : List Wire) (m : ℕ) (part : Part) :
   pub ins : map (value_at part.globals) part.piece.ins ≡ signals_of wires (channels_to wires m)
   pub outs : map (value_at part.globals) part.piece.outs ≡ givens_of wires (channels_from wires m)
 
--- a part of the cut does by the plan's channels, since its machine is before those whose places bridges take
-part-on : (design : Ordered) (request : Request) (m : ℕ) (part : Part) → m < first_source (listed_of design.tree request) → IsCutPart design (listed_of design.tree request) (plan_hub design.circuit design.tree request) m part → IsPartOn design (plan_wires design.circuit design.tree request) m part
-part-on design request m part low cut =
-    let b = plan_bridges design.circuit design.tree request in
-    let base = plan_routes design.circuit design.tree request in
-    let wires = plan_wires design.circuit design.tree request in
-    record {
-      is = cut.is;
-      ins = cut.ins ∙ sym (signals-alike b base (channels_to base m)) ∙ ap (signals_of wires) (sym (low-to b base m low));
-      outs = cut.outs ∙ sym (givens-alike b base (channels_from base m)) ∙ ap (givens_of wires) (sym (low-from b base m low));
-    }
+part-on : (design : Ordered) (request : Request) (m : ℕ) (part : Part) → IsCutPart design (listed_of design.tree request) (plan_hub design.circuit design.tree request) m part → IsPartOn design (plan_wires design.circuit design.tree request) m part
+part-on design request m part cut = record { is = cut.is; ins = cut.ins; outs = cut.outs }
 
 module _ (design : Ordered) (listed : Listed) (wires : List Wire) (m : ℕ) (part : Part) (cut : IsPartOn design wires m part) where
   -- the in-signal at a place is the signal of the channel at that place
@@ -193,8 +183,8 @@ module _ (design : Ordered) (request : Request) (models : Models) where
       → NeedsIn body channels (wire_at the_wires c).given needs → (d : ℕ) → Contains needs d ↔ NeedsChannel design.circuit the_listed the_wires c d
   body-needs (Cut part) channels c needs is same lt are =
       let low : giver c < first_source the_listed = let first = is.0 in omega (arith, first) in
-      part-needs design the_listed the_wires (giver c) part (part-on design request (giver c) part low is.1) channels c needs same low lt refl are
-  body-needs (Memory part) channels c needs is same lt are = part-needs design the_listed the_wires (giver c) part (part-on design request (giver c) part is.1 is.2) channels c needs same is.1 lt refl are
+      part-needs design the_listed the_wires (giver c) part (part-on design request (giver c) part is.1) channels c needs same low lt refl are
+  body-needs (Memory part) channels c needs is same lt are = part-needs design the_listed the_wires (giver c) part (part-on design request (giver c) part is.2) channels c needs same is.1 lt refl are
   body-needs (Source place) channels c needs is same lt are = none-needed design.circuit the_listed the_wires c needs are (let at = is.1 in omega (arith, at))
   body-needs Tray channels c needs is same lt are = none-needed design.circuit the_listed the_wires c needs are (let past = is.0 in omega (arith, past))
   body-needs (Bridge bridge) channels c needs is same lt are = none-needed design.circuit the_listed the_wires c needs are (let past = is.0 in omega (arith, past))

@@ -9,7 +9,7 @@ use Rattle.gg_flat.specs.Circuit.{driver_at}
 use Rattle.gg_flat.specs.Reads.{NamesSignal}
 use Rattle.gg_order.specs.Design.{Ordered}
 use Rattle.gg_cut_plan.specs.Channels.{wires_of}
-use Rattle.gg_cut_plan.specs.Seated.{plan_wires}
+use Rattle.gg_cut_plan.specs.Direct.{plan_wires}
 use Rattle.gg_cut_plan.specs.Plan.{channels_to, signals_of}
 use Rattle.gg_cut_plan.specs.declared.wires.Wire.{Wire}
 use Rattle.gg_cut_plan.proofs.WorkedPair.{circuit, tree, listed, both_units, direct_units, piped_units}
@@ -19,7 +19,7 @@ abbrev pub design : Ordered
 design = record { circuit = circuit; tree = tree; order = 0 ∷ 2 ∷ 4 ∷ 6 ∷ 7 ∷ 3 ∷ 5 ∷ 1 ∷ [] }
 
 abbrev pub wires : List Wire
-wires = wires_of circuit tree listed
+wires = wires_of circuit tree listed []
 
 hub : machine_text design both_units listed 0 ≡ codes "machine hub: host 0\n"
 hub = ap (λ (h : List ℕ). codes "machine hub: host " ++ h ++ codes "\n") (decimal_digit 0 (omega arith))

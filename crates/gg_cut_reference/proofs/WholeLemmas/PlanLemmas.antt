@@ -15,12 +15,12 @@ use Rattle.gg_bridge.proofs.AllLemmas.{all-formed, all-ordered}
 use Rattle.gg_bridge.proofs.EachLemmas.{each-can}
 use Rattle.gg_cut_plan.specs.Bridges.{Models, bridge_faults}
 use Rattle.gg_cut_plan.specs.Channels.{channel_names}
-use Rattle.gg_cut_plan.specs.Direct.{Hub, is_driven, is_piped, plan_hub}
+use Rattle.gg_cut_plan.specs.Direct.{Hub, is_piped, plan_hub}
 use Rattle.gg_cut_plan.specs.declared.listed.Listed.{Listed}
 use Rattle.gg_cut_plan.specs.Fault.{first_fault}
 use Rattle.gg_bits.specs.Lists.{first_of, or_else}
 use Rattle.gg_cut_plan.specs.Listed.{listed_of}
-use Rattle.gg_cut_plan.specs.Seated.{output_count}
+use Rattle.gg_cut_plan.specs.Ports.{output_count}
 use Rattle.gg_cut_split.specs.inside.Apart.{AreApart}
 use Rattle.gg_cut_split.proofs.ClosedLemmas.FaultlessLemmas.{faultless-apart}
 use Rattle.gg_cut_reference.specs.inside.Fitting.{AreFitting, attached_of}
@@ -87,18 +87,18 @@ module _ (design : Ordered) (request : Request) (models : Models) (can : CanBrid
   apart : AreApart design.tree (listed_of design.tree request)
   apart = faultless-apart design request faultless can.keeps.fitting
 
-  pub reference-made : IsReference design.circuit (plan_reference design request) (views_in design.circuit design.tree (listed_of design.tree request) (is_piped design.circuit request) (is_driven design.circuit request) request.direct) (pipes_of (plan_hub design.circuit design.tree request))
+  pub reference-made : IsReference design.circuit (plan_reference design request) (views_in design.circuit design.tree (listed_of design.tree request) (is_piped design.circuit request) request.bridges request.direct) (pipes_of (plan_hub design.circuit design.tree request))
   reference-made =
-      made design.circuit design.tree listed can.design_is.formed can.keeps.fitting can.keeps.scoped apart (is_piped design.circuit request) (is_driven design.circuit request) request.direct base (holder_of hub) (keeper_of design.tree listed)
+      made design.circuit design.tree listed can.design_is.formed can.keeps.fitting can.keeps.scoped apart (is_piped design.circuit request) request.bridges request.direct base (holder_of hub) (keeper_of design.tree listed)
 
   pub reference-formed : IsWellFormed (plan_reference design request)
   reference-formed =
-      whole-formed design.circuit design.tree listed can.design_is.formed can.keeps.fitting can.keeps.scoped apart (is_piped design.circuit request) (is_driven design.circuit request) request.direct base (holder_of hub) (keeper_of design.tree listed)
+      whole-formed design.circuit design.tree listed can.design_is.formed can.keeps.fitting can.keeps.scoped apart (is_piped design.circuit request) request.bridges request.direct base (holder_of hub) (keeper_of design.tree listed)
       (keeper-is design.circuit design.tree listed can.keeps.fitting) can.free.pipe
 
   reference-ordered : HasOrder (plan_reference design request)
   reference-ordered =
-      let is = ordered design.circuit design.tree listed can.design_is.formed can.keeps.fitting can.keeps.scoped apart (is_piped design.circuit request) (is_driven design.circuit request) request.direct base (holder_of hub) (keeper_of design.tree listed) design.order can.design_is.ordered in
+      let is = ordered design.circuit design.tree listed can.design_is.formed can.keeps.fitting can.keeps.scoped apart (is_piped design.circuit request) request.bridges request.direct base (holder_of hub) (keeper_of design.tree listed) design.order can.design_is.ordered in
       record { order = _; is = is }
 
   -- ---- the ports

@@ -21,7 +21,7 @@ use Rattle.gg_cut_split.proofs.ClosedLemmas.ListLemmas.{map-cases}
 use Rattle.gg_cut_plan.specs.Bridges.{Models}
 use Rattle.gg_cut_plan.specs.Direct.{Hub, plan_hub}
 use Rattle.gg_cut_plan.specs.Listed.{is_among}
-use Rattle.gg_cut_plan.specs.Seated.{open_ins, open_outs, output_count}
+use Rattle.gg_cut_plan.specs.Ports.{open_ins, open_outs, output_count}
 use Rattle.gg_cut_plan.proofs.PathLemmas.{among-contains}
 use Rattle.gg_cut_reference.specs.inside.Fitting.{attached_of}
 use Rattle.gg_cut_reference.specs.Links.{taken_as}

@@ -20,7 +20,7 @@ use Rattle.gg_bridge.proofs.AllLemmas.{all-runs}
 use Rattle.gg_bridge.proofs.AtLemmas.{long}
 use Rattle.gg_cut_plan.specs.Bridges.{Models, model_of}
 use Rattle.gg_cut_plan.specs.Plan.{entry_at}
-use Rattle.gg_cut_plan.specs.Seated.{open_ins}
+use Rattle.gg_cut_plan.specs.Ports.{open_ins}
 use Rattle.gg_cut_plan.specs.Solves.{AreRows, model_start}
 use Rattle.gg_cut_reference.specs.inside.Fitting.{attached_of}
 use Rattle.gg_cut_reference.specs.Made.{plan_reference}

@@ -16,7 +16,7 @@ use Rattle.gg_partfile.specs.Request.{no_request}
 use Rattle.gg_bridge.specs.inside.Echo.{echo_piece}
 use Rattle.gg_bridge.proofs.WorkedEcho.{two}
 use Rattle.gg_cut_plan.specs.Bridges.{Models}
-use Rattle.gg_cut_plan.specs.Seated.{open_ins, open_outs}
+use Rattle.gg_cut_plan.specs.Ports.{open_ins, open_outs}
 use Rattle.gg_cut_plan.proofs.WorkedPair.{input, output}
 use Rattle.gg_order.specs.Found.{found_order}
 use Rattle.gg_cut_reference.specs.inside.Whole.{driven_signal, model_signals, bridge_signal}

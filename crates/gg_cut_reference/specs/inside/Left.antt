@@ -8,7 +8,7 @@ use Rattle.gg_flat_tree.specs.Tree.{InstanceTree, path_at}
 use Rattle.gg_partfile.specs.Size.{all_driven, all_seen}
 use Rattle.gg_partfile.specs.declared.request.Request.{Request}
 use Rattle.gg_cut_plan.specs.Listed.{is_among}
-use Rattle.gg_cut_plan.specs.Seated.{open_ins, open_outs, plan_bridges, undriven, unseen}
+use Rattle.gg_cut_plan.specs.Ports.{open_ins, open_outs, plan_bridges, undriven, unseen}
 use Rattle.gg_bits.specs.Lists.{count_below}
 
 -- The out-signals that no bridge sees are counted: the outputs among them, and all stops.

@@ -7,7 +7,7 @@ use Rattle.gg_flat_tree.specs.Tree.{InstanceTree, path_at}
 use Rattle.gg_partfile.specs.Size.{all_driven, all_seen}
 use Rattle.gg_partfile.specs.declared.request.Request.{Request}
 use Rattle.gg_cut_plan.specs.Plan.{entry_at}
-use Rattle.gg_cut_plan.specs.Seated.{plan_bridges}
+use Rattle.gg_cut_plan.specs.Ports.{plan_bridges}
 
 -- The bridge that drives an input lists its path.
 abbrev pub DriversListTheirInputs : Type 0

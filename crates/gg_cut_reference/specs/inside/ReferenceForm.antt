@@ -10,6 +10,7 @@ use Rattle.gg_flat_tree.specs.Tree.{InstanceTree}
 use Rattle.gg_part.specs.KeepsToTree.{KeepsToTree}
 use Rattle.gg_order.specs.Design.{Ordered, IsDesign}
 use Rattle.gg_partfile.specs.declared.request.Request.{Request}
+use Rattle.gg_partfile.specs.declared.request.BridgeEntry.{BridgeEntry}
 use Rattle.gg_cut_plan.specs.declared.listed.Listed.{Listed}
 use Rattle.gg_cut_plan.specs.Clocks.{ratio_of}
 use Rattle.gg_cut_plan.specs.Direct.{hub_of}
@@ -26,40 +27,40 @@ use Rattle.gg_cut_reference.specs.Follows.{plan_start}
 -- The reference circuit has what the design has, and a register for each piped channel.
 abbrev pub ReferencesArePiped : Type 0
 ReferencesArePiped =
-    (design : Ordered) (listed : Listed) (piped driven : ℕ → Bool) (direct : Bool)
+    (design : Ordered) (listed : Listed) (piped : ℕ → Bool) (entries : List BridgeEntry) (direct : Bool)
     -- The design keeps to its tree, and what is listed is apart.
     → IsDesign design → KeepsToTree design.circuit design.tree → AreApart design.tree listed
     -- The reference circuit is the design's with these pipes, where each machine sees signals by its names.
-    → IsReference design.circuit (reference_circuit design.circuit design.tree listed piped driven direct) (views_in design.circuit design.tree listed piped driven direct) (pipes_of (hub_of design.circuit design.tree listed piped driven direct))
+    → IsReference design.circuit (reference_circuit design.circuit design.tree listed piped entries direct) (views_in design.circuit design.tree listed piped entries direct) (pipes_of (hub_of design.circuit design.tree listed piped entries direct))
 
 -- The reference circuit is well formed.
 abbrev pub ReferencesAreFormed : Type 0
 ReferencesAreFormed =
-    (design : Ordered) (listed : Listed) (piped driven : ℕ → Bool) (direct : Bool)
+    (design : Ordered) (listed : Listed) (piped : ℕ → Bool) (entries : List BridgeEntry) (direct : Bool)
     -- The design keeps to its tree, and what is listed is apart.
     → IsDesign design → KeepsToTree design.circuit design.tree → AreApart design.tree listed
     -- No path of the design begins with `pipe:`.
     → IsFresh design.circuit
     -- Then the reference circuit is well formed.
-    → IsWellFormed (reference_circuit design.circuit design.tree listed piped driven direct)
+    → IsWellFormed (reference_circuit design.circuit design.tree listed piped entries direct)
 
 -- The reference circuit has an order of evaluation.
 abbrev pub ReferencesAreOrdered : Type 0
 ReferencesAreOrdered =
-    (design : Ordered) (listed : Listed) (piped driven : ℕ → Bool) (direct : Bool)
+    (design : Ordered) (listed : Listed) (piped : ℕ → Bool) (entries : List BridgeEntry) (direct : Bool)
     -- The design keeps to its tree, and what is listed is apart.
     → IsDesign design → KeepsToTree design.circuit design.tree → AreApart design.tree listed
     -- The pipes, followed by the order of the design, are an order of the reference circuit.
-    → IsOrder (reference_circuit design.circuit design.tree listed piped driven direct) (range_with_len (length design.circuit.signals) (length (pipes_of (hub_of design.circuit design.tree listed piped driven direct))) ++ design.order)
+    → IsOrder (reference_circuit design.circuit design.tree listed piped entries direct) (range_with_len (length design.circuit.signals) (length (pipes_of (hub_of design.circuit design.tree listed piped entries direct))) ++ design.order)
 
 -- Where no channel is piped, the reference circuit is the circuit itself.
 abbrev pub NothingIsPiped : Type 0
 NothingIsPiped =
-    (circuit : FlatCircuit) (tree : InstanceTree) (listed : Listed) (piped driven : ℕ → Bool) (direct : Bool)
+    (circuit : FlatCircuit) (tree : InstanceTree) (listed : Listed) (piped : ℕ → Bool) (entries : List BridgeEntry) (direct : Bool)
     -- The cut has no pipe.
-    → pipes_of (hub_of circuit tree listed piped driven direct) ≡ []
+    → pipes_of (hub_of circuit tree listed piped entries direct) ≡ []
     -- Its reference circuit is the circuit that is cut.
-    → reference_circuit circuit tree listed piped driven direct ≡ circuit
+    → reference_circuit circuit tree listed piped entries direct ≡ circuit
 
 -- ---- the circuits of two requests
 

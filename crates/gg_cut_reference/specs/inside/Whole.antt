@@ -17,7 +17,7 @@ use Rattle.gg_cut_plan.specs.Bridges.{Models, model_of}
 use Rattle.gg_cut_plan.specs.Direct.{plan_hub}
 use Rattle.gg_cut_plan.specs.Listed.{place_of}
 use Rattle.gg_cut_plan.specs.Plan.{entry_at}
-use Rattle.gg_cut_plan.specs.Seated.{open_ins}
+use Rattle.gg_cut_plan.specs.Ports.{open_ins}
 use Rattle.gg_cut_plan.specs.Solves.{AreRows, model_start}
 use Rattle.gg_cut_reference.specs.Links.{taken_as}
 use Rattle.gg_cut_reference.specs.Made.{plan_reference}

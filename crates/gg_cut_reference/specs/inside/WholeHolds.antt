@@ -9,7 +9,7 @@ use Rattle.gg_partfile.specs.declared.request.Request.{Request}
 use Rattle.gg_cut_plan.specs.Bridges.{Models}
 use Rattle.gg_cut_plan.specs.Clocks.{ratios_of}
 use Rattle.gg_cut_plan.specs.Direct.{plan_hub}
-use Rattle.gg_cut_plan.specs.Seated.{open_outs, output_count}
+use Rattle.gg_cut_plan.specs.Ports.{open_outs, output_count}
 use Rattle.gg_cut_plan.specs.Solves.{AreRows}
 use Rattle.gg_cut_reference.specs.Follows.{plan_start}
 use Rattle.gg_cut_reference.specs.Links.{taken_as}

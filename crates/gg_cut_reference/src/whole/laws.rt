@@ -5,7 +5,7 @@ ghost use Rattle.gg_order.specs.Design.{Ordered};
 ghost use Rattle.gg_partfile.specs.declared.request.Request.{Request};
 ghost use Rattle.gg_bridge.specs.inside.Joined.{HasOrder};
 ghost use Rattle.gg_cut_plan.specs.Bridges.{Models};
-ghost use Rattle.gg_cut_plan.specs.Seated.{open_ins};
+ghost use Rattle.gg_cut_plan.specs.Ports.{open_ins};
 ghost use Rattle.gg_cut_reference.specs.Made.{plan_reference};
 ghost use Rattle.gg_cut_reference.specs.whole.Whole.{CanBridge, plan_circuit};
 ghost use Rattle.gg_cut_reference.specs.inside.Whole.{CanStandAll};

@@ -7,9 +7,8 @@ use Rattle.gg_flat.specs.Circuit.{FlatCircuit, driver_at}
 use Rattle.gg_flat_tree.specs.Scoped.{memory_fields}
 use Rattle.gg_order.specs.Marks.{is_marked}
 use Rattle.gg_cut_plan.specs.declared.wires.Wire.{Wire}
-use Rattle.gg_cut_plan.specs.declared.listed.Listed.{Listed}
 use Rattle.gg_cut_plan.specs.inside.Listed.{AreMarks}
-use Rattle.gg_cut_plan.specs.Machines.{is_memory}
+use Rattle.gg_cut_plan.specs.inside.Machines.{Counts, silent_by}
 use Rattle.gg_cut_plan.specs.Direct.{Hub, is_taken, is_own, driver_names, copied, origin}
 use Rattle.gg_cut_routes.specs.declared.sides.Side.{Side}
 use Rattle.gg_cut_routes.specs.declared.sides.Side.TheVariants.{Other, Own, Out, In}
@@ -105,28 +104,28 @@ pub record IsSeen (hub : Hub) (circuit : FlatCircuit) (sides : List Side) (marks
   pub is : hub.circuit ≡ circuit
   pub taken : (s : ℕ) → is_taken hub s ≡ is_in (side_at sides s)
   pub own : (s : ℕ) → s < length circuit.signals → is_own hub s ≡ is_inner (side_at sides s)
-  -- the marks are on the signals of piped channels, and on the signals that a bridge drives
-  pub barred : (s : ℕ) → (hub.piped s || hub.driven s) ≡ is_marked marks s
+  -- the marks are on the signals of piped channels
+  pub barred : (s : ℕ) → hub.piped s ≡ is_marked marks s
 
 -- ---- direct channels
 
--- in-channel x, if x is one and its producer is no listed memory
-abbrev pub given_by : Listed → ℕ → Side → Option ℕ
-given_by listed x Other = None
-given_by listed x Own = None
-given_by listed x Out = None
-given_by listed x (In producer) = if is_memory listed producer then None else Some x
+-- in-channel x, if x is one and its producer is a source or a unit
+abbrev pub given_by : Counts → ℕ → Side → Option ℕ
+given_by counts x Other = None
+given_by counts x Own = None
+given_by counts x Out = None
+given_by counts x (In producer) = if silent_by counts producer then None else Some x
 
--- an in-channel that no memory gives
-abbrev pub if_given : Listed → List Side → Option ℕ → Option ℕ
-if_given listed sides None = None
-if_given listed sides (Some x) = given_by listed x (side_at sides x)
+-- an in-channel that a source or a unit gives
+abbrev pub if_given : Counts → List Side → Option ℕ → Option ℕ
+if_given counts sides None = None
+if_given counts sides (Some x) = given_by counts x (side_at sides x)
 
 -- The in-channel that is given in place of a channel, if the channel is direct. The marks are on what the hub names and on the
 -- stops.
-abbrev pub direct_by : FlatCircuit → Listed → List Side → List (Option ℕ) → List Bool → Bool → Wire → Option ℕ
-direct_by circuit listed sides origins named direct w =
-    if (direct && (w.producer == 0)) && not (is_marked named w.signal) then if_given listed sides (origin_beyond circuit origins w.signal) else None
+abbrev pub direct_by : FlatCircuit → Counts → List Side → List (Option ℕ) → List Bool → Bool → Wire → Option ℕ
+direct_by circuit counts sides origins named direct w =
+    if (direct && (w.producer == 0)) && not (is_marked named w.signal) then if_given counts sides (origin_beyond circuit origins w.signal) else None
 
 -- the table has f w for the signal of each channel w, and none for the other signals
 pub record AreEntries (f : Wire → Option ℕ) (wires : List Wire) (table : List (Option ℕ)) : Type 0 where

@@ -1,5 +1,5 @@
 -- What one of two units takes and gives, the other takes and gives too; and a signal of the one has no channel if its counterpart has none.
-use Rattle.std.proofs.Common.{◌≡◌, ℕ, List, sym, ◌∙◌, ap, subst, inl, inr, ◌⊎◌, true-eqb}
+use Rattle.std.proofs.Common.{◌≡◌, ℕ, List, [], sym, ◌∙◌, ap, subst, inl, inr, ◌⊎◌, true-eqb}
 use Rattle.std.specs.Prelude.{◌==◌, Contains}
 use Rattle.std.proofs.lemmas.List.Elements.{All-contains}
 use Rattle.gg_flat.specs.Line.{value_at}
@@ -11,7 +11,7 @@ use Rattle.gg_order.specs.Design.{Ordered}
 use Rattle.gg_cut_plan.specs.declared.wires.Wire.{Wire}
 use Rattle.gg_cut_plan.specs.declared.listed.Listed.{Listed}
 use Rattle.gg_cut_plan.specs.Machines.{unit_number}
-use Rattle.gg_cut_plan.specs.inside.Machines.{machine_count}
+use Rattle.gg_cut_plan.specs.Ports.{machine_end, ports_of}
 use Rattle.gg_cut_plan.specs.Plan.{wire_at, channels_to, signals_of, IsInner, Takes}
 use Rattle.gg_cut_split.specs.inside.Apart.{AreEnds}
 use Rattle.gg_cut_split.proofs.ClosedLemmas.EndLemmas.{ends}
@@ -33,18 +33,18 @@ module _ (design : Ordered) (listed : Listed) (u v : ℕ) (one other : Start) (p
 
   given-at : (s : ℕ) → Gives (cut_wires design listed) (unit_number u) s → IsAtUnit design.circuit design.tree listed u s
   given-at s g =
-      let w = given-out design.circuit design.tree listed (unit_number u) s g in
+      let w = given-out design.circuit design.tree listed [] (unit_number u) s g in
       subst (IsAtUnit design.circuit design.tree listed u) w.is
       (end-at design.circuit design.tree listed pair.keeps.fitting pair.keeps.scoped pair.apart u pair.there.known w.wire w.among (inl (true-eqb w.wire.producer (unit_number u) (sym w.passes))))
 
   -- no machine takes the channel of a signal that it gives
   not-both : (m s : ℕ) → Gives (cut_wires design listed) m s → Takes (cut_wires design listed) m s → ⊥
-  not-both m s g t = by (given-out design.circuit design.tree listed m s g) (chosen-out (cut_wires design listed) (λ w. w.consumer == m) s t)
+  not-both m s g t = by (given-out design.circuit design.tree listed [] m s g) (chosen-out (cut_wires design listed) (λ w. w.consumer == m) s t)
     where
       by : HasWire (cut_wires design listed) (λ w. w.producer == m) s → HasWire (cut_wires design listed) (λ w. w.consumer == m) s → ⊥
       by a b =
-          let same = channel-one design.circuit design.tree listed pair.keeps.fitting pair.keeps.scoped pair.apart a.wire b.wire a.among b.among (a.is ∙ sym b.is) in
-          (All-contains (AreEnds (machine_count design.circuit listed)) (cut_wires design listed) a.wire (ends design.circuit design.tree listed pair.keeps.fitting pair.apart) a.among).apart
+          let same = channel-one design.circuit design.tree listed [] pair.keeps.fitting pair.keeps.scoped pair.apart a.wire b.wire a.among b.among (a.is ∙ sym b.is) in
+          (All-contains (AreEnds (machine_end (ports_of design.circuit design.tree listed []))) (cut_wires design listed) a.wire (ends design.circuit design.tree listed [] pair.keeps.fitting pair.apart) a.among).apart
           (true-eqb a.wire.producer m (sym a.passes) ∙ sym (true-eqb b.wire.consumer m (sym b.passes)) ∙ ap (λ (w : Wire). w.consumer) (sym same))
 
   -- the other unit takes the counterpart of what the one takes
@@ -87,11 +87,11 @@ inner-from design listed u v one other pair s holds inner c lt is = by (gets-aga
         (subst (Holds (instance_at design.tree (value_at listed.units u))) (sym is) holds))
 
     none : (w : Wire) → Contains (cut_wires design listed) w → w.signal ≡ shifted one.signals other.signals s → ⊥
-    none w among same = no-channel design.circuit design.tree listed pair.keeps.fitting pair.keeps.scoped pair.apart (shifted one.signals other.signals s) w inner among same
+    none w among same = no-channel design.circuit design.tree listed [] pair.keeps.fitting pair.keeps.scoped pair.apart (shifted one.signals other.signals s) w inner among same
 
     by : Takes (cut_wires design listed) (unit_number v) (shifted one.signals other.signals s) ⊎ Gives (cut_wires design listed) (unit_number v) (shifted one.signals other.signals s) → ⊥
     by (inl t) = let w = chosen-out (cut_wires design listed) (λ w. w.consumer == unit_number v) (shifted one.signals other.signals s) t in none w.wire w.among w.is
-    by (inr g) = let w = given-out design.circuit design.tree listed (unit_number v) (shifted one.signals other.signals s) g in none w.wire w.among w.is
+    by (inr g) = let w = given-out design.circuit design.tree listed [] (unit_number v) (shifted one.signals other.signals s) g in none w.wire w.among w.is
 
 -- what the channels of the one unit carry, those of the other carry too
 pub channels-over : (design : Ordered) (listed : Listed) (u v : ℕ) (one other : Start) → ArePair design listed u v one other → AreChannelsOver design listed u v one other

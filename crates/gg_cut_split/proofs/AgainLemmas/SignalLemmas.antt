@@ -1,5 +1,5 @@
 -- The signals that a unit makes and takes, and those of a copy of it.
-use Rattle.std.proofs.Common.{◌≡◌, ℕ, suc, ◌<◌, length, Bool, true, false, refl, sym, ◌∙◌, ap, subst, inl, inr, ◌⊎◌, true-eqb, arith}
+use Rattle.std.proofs.Common.{◌≡◌, ℕ, suc, ◌<◌, [], length, Bool, true, false, refl, sym, ◌∙◌, ap, subst, inl, inr, ◌⊎◌, true-eqb, arith}
 use Rattle.std.specs.Prelude.{slice_index_or, if◌then◌else◌, Contains}
 use Rattle.gg_flat.specs.declared.piece.Driver.TheVariants.{Held}
 use Rattle.gg_flat.specs.declared.piece.Register.{Register}
@@ -44,13 +44,13 @@ module _ (design : Ordered) (listed : Listed) (u v : ℕ) (one other : Start) (p
   owned-held s lt owner inner =
       let at = innermost circuit tree pair.keeps.fitting s lt in
       inner-held circuit tree listed pair.keeps.fitting pair.keeps.scoped pair.apart u pair.there.known at.place s at.is
-      (sym (owner-signal circuit tree listed pair.keeps.fitting pair.keeps.scoped pair.apart at.place s at.is (inner-plain circuit tree listed pair.keeps.fitting pair.keeps.scoped pair.apart s inner)) ∙ owner)
+      (sym (owner-signal circuit tree listed pair.keeps.fitting pair.keeps.scoped pair.apart at.place s at.is (inner-plain circuit tree listed [] pair.keeps.fitting pair.keeps.scoped pair.apart s inner)) ∙ owner)
 
   -- a signal without a channel of a unit's instance belongs to the unit
   held-owned : (s : ℕ) → s < length design.circuit.signals → Holds (instance_at design.tree (value_at listed.units v)) s → IsInner (cut_wires design listed) s → owner_of design.circuit design.tree listed s ≡ suc v
   held-owned s lt holds inner =
       let at = innermost circuit tree pair.keeps.fitting s lt in
-      owner-signal circuit tree listed pair.keeps.fitting pair.keeps.scoped pair.apart at.place s at.is (inner-plain circuit tree listed pair.keeps.fitting pair.keeps.scoped pair.apart s inner)
+      owner-signal circuit tree listed pair.keeps.fitting pair.keeps.scoped pair.apart at.place s at.is (inner-plain circuit tree listed [] pair.keeps.fitting pair.keeps.scoped pair.apart s inner)
       ∙ holder-owner circuit tree listed pair.keeps.fitting pair.keeps.scoped pair.apart v pair.back.known at.place s at.is holds
 
   pub made-held : (s : ℕ) → Makes design.circuit design.tree listed (cut_wires design listed) (unit_number u) s → Holds (instance_at design.tree (value_at listed.units u)) s
@@ -98,13 +98,13 @@ module _ (design : Ordered) (listed : Listed) (u v : ℕ) (one other : Start) (p
           made false e t same = absurd (cc)
 
       among : Contains (cut_wires design listed) (wire s (outside_unit design.tree listed u) (suc u))
-      among = subst (λ (w : Wire). Contains (cut_wires design listed) w) (sym port) (unit-wire design.circuit design.tree listed u input.port pair.there.known input.listed)
+      among = subst (λ (w : Wire). Contains (cut_wires design listed) w) (sym port) (unit-wire design.circuit design.tree listed [] u input.port pair.there.known input.listed)
 
       by : Makes design.circuit design.tree listed (cut_wires design listed) (unit_number u) s → ⊥
-      by (inl own) = no-channel design.circuit design.tree listed pair.keeps.fitting pair.keeps.scoped pair.apart s (wire s (outside_unit design.tree listed u) (suc u)) own.2 among refl
+      by (inl own) = no-channel design.circuit design.tree listed [] pair.keeps.fitting pair.keeps.scoped pair.apart s (wire s (outside_unit design.tree listed u) (suc u)) own.2 among refl
       by (inr given) =
-          let w = given-out design.circuit design.tree listed (suc u) s given in
-          let same = channel-one design.circuit design.tree listed pair.keeps.fitting pair.keeps.scoped pair.apart w.wire (wire s (outside_unit design.tree listed u) (suc u)) w.among among w.is in
+          let w = given-out design.circuit design.tree listed [] (suc u) s given in
+          let same = channel-one design.circuit design.tree listed [] pair.keeps.fitting pair.keeps.scoped pair.apart w.wire (wire s (outside_unit design.tree listed u) (suc u)) w.among among w.is in
           outside-hub design.circuit design.tree listed pair.keeps.fitting pair.apart u pair.there.known u pair.there.known (sym (ap (λ (x : Wire). x.producer) same) ∙ true-eqb w.wire.producer (suc u) (sym w.passes))
 
   pub driver-too : (s : ℕ) → Makes design.circuit design.tree listed (cut_wires design listed) (unit_number u) s

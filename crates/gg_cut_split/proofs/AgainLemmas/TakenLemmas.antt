@@ -17,8 +17,10 @@ use Rattle.gg_flat_tree.specs.Scoped.{writers_at}
 use Rattle.gg_cut_plan.specs.declared.wires.Wire.{Wire}
 use Rattle.gg_cut_plan.specs.declared.listed.Listed.{Listed}
 use Rattle.gg_cut_plan.specs.Listed.{owner_of_instance}
-use Rattle.gg_cut_plan.specs.Machines.{unit_number, first_unit, first_memory, first_source, first_tray}
-use Rattle.gg_cut_plan.specs.Channels.{wire, numbered, flattened, port_wire, port_wires, reader_wires, writer_wires, field_wires, source_wires, tray_wires, wires_of}
+use Rattle.gg_cut_plan.specs.Machines.{unit_number, first_unit, first_memory}
+use Rattle.gg_cut_plan.specs.Ports.{keeper_of, ports_of}
+use Rattle.gg_cut_plan.proofs.PortLemmas.{keeper-source}
+use Rattle.gg_cut_plan.specs.Channels.{wire, numbered, flattened, port_wire, port_wires, reader_wires, writer_wires, field_wires, input_wires, output_wires, wires_of}
 use Rattle.gg_cut_plan.specs.Plan.{wire_at, channels_to, signals_of}
 use Rattle.gg_cut_split.specs.inside.Apart.{AreApart}
 use Rattle.gg_cut_split.proofs.ClosedLemmas.TreeLemmas.{lies-up}
@@ -142,8 +144,8 @@ module _ (circuit : FlatCircuit) (tree : InstanceTree) (listed : Listed) (fits :
           let same : unit_number u ≡ unit_number k = sym (lies-owner circuit tree listed fits apart (value_at listed.units k) u known lt up) ∙ owner-unit circuit tree listed fits apart k inside in
           owner-outside circuit tree listed fits apart k p inside parent (owner ∙ same)
 
-  abbrev sources : List Wire
-  sources = numbered source_wires (first_source listed) circuit.ins
+  abbrev inputs : List Wire
+  inputs = numbered (input_wires (ports_of circuit tree listed [])) 0 circuit.ins
 
   abbrev ports : List Wire
   ports = numbered (port_wires tree listed.units) first_unit listed.units
@@ -151,12 +153,12 @@ module _ (circuit : FlatCircuit) (tree : InstanceTree) (listed : Listed) (fits :
   abbrev fields : List Wire
   fields = numbered (field_wires circuit tree listed.units) (first_memory listed) listed.memories
 
-  abbrev trays : List Wire
-  trays = numbered (tray_wires circuit tree listed) (first_tray circuit listed) circuit.outs
+  abbrev outputs : List Wire
+  outputs = numbered (output_wires circuit tree listed (ports_of circuit tree listed [])) 0 circuit.outs
 
-  from-sources : flat_map (taken (unit_number u)) (numbered source_wires (first_source listed) circuit.ins) ≡ []
-  from-sources =
-      flat-numbered (taken (unit_number u)) source_wires nothing (first_source listed) circuit.ins 0
+  from-inputs : flat_map (taken (unit_number u)) (numbered (input_wires (ports_of circuit tree listed [])) 0 circuit.ins) ≡ []
+  from-inputs =
+      flat-numbered (taken (unit_number u)) (input_wires (ports_of circuit tree listed [])) nothing 0 circuit.ins 0
       (λ i inside. ap (λ b. cond b (get_or circuit.ins i 0 ∷ []) [] ++ []) (ne_eqb 0 (unit_number u) (λ e. absurd (omega (arith, e)))))
       ∙ flat-nothing nothing circuit.ins (λ s. refl)
 
@@ -175,18 +177,20 @@ module _ (circuit : FlatCircuit) (tree : InstanceTree) (listed : Listed) (fits :
       fields-taken (unit_number u) (owner_of_instance tree listed.units (memory_at tree (value_at listed.memories i)).instance) (first_memory listed + i) (λ e. absurd (omega (arith, e, lt))) (readers_at circuit place) (writers_at circuit place))
       ∙ sym (flat-filter (words circuit tree) (λ j. owner_of_instance tree listed.units (memory_at tree j).instance == unit_number u) listed.memories)
 
-  from-trays : flat_map (taken (unit_number u)) (numbered (tray_wires circuit tree listed) (first_tray circuit listed) circuit.outs) ≡ []
-  from-trays =
-      flat-numbered (taken (unit_number u)) (tray_wires circuit tree listed) nothing (first_tray circuit listed) circuit.outs 0
-      (λ i inside. ap (λ b. cond b (get_or circuit.outs i 0 ∷ []) [] ++ []) (ne_eqb (first_tray circuit listed + i) (unit_number u) (λ e. absurd (omega (arith, e, lt)))))
+  from-outputs : flat_map (taken (unit_number u)) (numbered (output_wires circuit tree listed (ports_of circuit tree listed [])) 0 circuit.outs) ≡ []
+  from-outputs =
+      flat-numbered (taken (unit_number u)) (output_wires circuit tree listed (ports_of circuit tree listed [])) nothing 0 circuit.outs 0
+      (λ i inside.
+      ap (λ b. cond b (get_or circuit.outs i 0 ∷ []) [] ++ [])
+      (ne_eqb (keeper_of (ports_of circuit tree listed []) (0 + i)) (unit_number u) (λ e. let high = keeper-source (ports_of circuit tree listed []) (0 + i) in absurd (omega (arith, e, lt, high)))))
       ∙ flat-nothing nothing circuit.outs (λ s. refl)
 
   -- a unit takes its inputs, in port order, and then the data of the listed memories in it, in their order
-  pub taken-are : signals_of (wires_of circuit tree listed) (channels_to (wires_of circuit tree listed) (unit_number u)) ≡ flat_map input (instance_at tree (value_at listed.units u)).ports ++ flat_map (words circuit tree) (held tree listed u)
+  pub taken-are : signals_of (wires_of circuit tree listed []) (channels_to (wires_of circuit tree listed []) (unit_number u)) ≡ flat_map input (instance_at tree (value_at listed.units u)).ports ++ flat_map (words circuit tree) (held tree listed u)
   taken-are =
-      taken-signals (wires_of circuit tree listed) (unit_number u)
-      ∙ flat_map-append (taken (unit_number u)) sources (ports ++ (fields ++ trays))
-      ∙ ap₂ (λ a b. a ++ b) from-sources
-      (flat_map-append (taken (unit_number u)) ports (fields ++ trays)
+      taken-signals (wires_of circuit tree listed []) (unit_number u)
+      ∙ flat_map-append (taken (unit_number u)) inputs (ports ++ (fields ++ outputs))
+      ∙ ap₂ (λ a b. a ++ b) from-inputs
+      (flat_map-append (taken (unit_number u)) ports (fields ++ outputs)
       ∙ ap₂ (λ a b. a ++ b) from-ports
-      (flat_map-append (taken (unit_number u)) fields trays ∙ ap₂ (λ a b. a ++ b) from-fields from-trays ∙ append-nil (flat_map (words circuit tree) (held tree listed u))))
+      (flat_map-append (taken (unit_number u)) fields outputs ∙ ap₂ (λ a b. a ++ b) from-fields from-outputs ∙ append-nil (flat_map (words circuit tree) (held tree listed u))))

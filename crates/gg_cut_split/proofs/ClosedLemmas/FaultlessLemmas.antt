@@ -16,7 +16,7 @@ use Rattle.gg_cut_plan.specs.declared.fault.CutFault.TheVariants.{UnknownUnit, D
 use Rattle.gg_cut_plan.specs.declared.listed.Listed.{Listed}
 use Rattle.gg_cut_plan.specs.Listed.{is_among, is_lower, is_instance_path, instance_of, place_of, lies, listed_of}
 use Rattle.gg_cut_plan.specs.Channels.{channel_names, capacity_of}
-use Rattle.gg_cut_plan.specs.Direct.{plan_routes, plan_signals}
+use Rattle.gg_cut_plan.specs.Direct.{plan_wires, plan_signals}
 use Rattle.gg_cut_plan.specs.declared.wires.Wire.{Wire}
 use Rattle.gg_cut_plan.specs.Fault.{unknown_unit, overlap, overlapping, first_clash, out_of_range, range_fault, too_many_units, too_many_channels, same_path, repeated, ratio_fault, entry_faults, channel_faults, pipe_faults, clock_faults, later_faults, first_fault}
 use Rattle.gg_bits.specs.Limits.{most_units, most_channels, capacity_limit}
@@ -221,7 +221,7 @@ module _ (design : Ordered) (request : Request) (none : first_fault design reque
 
   pub faultless-few : AreFew design.circuit design.tree request
   faultless-few =
-      let wires = plan_routes design.circuit design.tree request in
+      let wires = plan_wires design.circuit design.tree request in
       let many = over most_channels (length signals) (length signals) (none-map TooManyChannels (too_many_channels signals) (channels-none 3)) in
       let count = length-map wires (λ (w : Wire). w.signal) in
       record {

@@ -1,5 +1,5 @@
 -- The kinds of channels: of a top input, of a unit's port, of a listed memory's field, of a top output.
-use Rattle.std.proofs.Common.{◌≡◌, ℕ, zero, suc, ◌+◌, ◌<◌, List, [], ◌∷◌, ◌++◌, length, get_or, true, refl, sym, ap, subst, inl, inr, ◌⊎◌, arith}
+use Rattle.std.proofs.Common.{◌≡◌, ℕ, zero, suc, ◌+◌, ◌<◌, List, [], ◌∷◌, ◌++◌, length, get_or, true, refl, sym, ◌∙◌, ap, subst, inl, inr, ◌⊎◌, arith}
 use Rattle.std.specs.Prelude.{flat_map, Contains, None}
 use Rattle.std.proofs.lemmas.List.{get_or_default}
 use Rattle.std.proofs.lemmas.List.Elements.{Contains-append_left, Contains-append_right, Contains-append_cases, Contains-get_or}
@@ -11,11 +11,13 @@ use Rattle.gg_flat.specs.Circuit.{FlatCircuit, readers_at, reader_at}
 use Rattle.gg_flat_tree.specs.Tree.{InstanceTree, instance_at, memory_at, parent_place}
 use Rattle.gg_flat_tree.specs.Scoped.{reader_fields, writer_fields, writers_at, memory_fields}
 use Rattle.gg_flat.proofs.ListLemmas.{Contains-map}
+use Rattle.gg_partfile.specs.declared.request.BridgeEntry.{BridgeEntry}
+use Rattle.gg_cut_plan.specs.Ports.{Bridges, giver_of, keeper_of, ports_of}
 use Rattle.gg_cut_plan.specs.declared.wires.Wire.{Wire}
 use Rattle.gg_cut_plan.specs.declared.listed.Listed.{Listed}
 use Rattle.gg_cut_plan.specs.Listed.{owner_of_instance, owner_of}
-use Rattle.gg_cut_plan.specs.Machines.{first_memory, first_source, first_tray}
-use Rattle.gg_cut_plan.specs.Channels.{wire, numbered, flattened, port_wire, port_wires, reader_wires, writer_wires, field_wires, source_wires, tray_wires, wires_of}
+use Rattle.gg_cut_plan.specs.Machines.{first_memory}
+use Rattle.gg_cut_plan.specs.Channels.{wire, numbered, flattened, port_wire, port_wires, reader_wires, writer_wires, field_wires, input_wires, output_wires, wires_of}
 use Rattle.gg_cut_split.proofs.ClosedLemmas.ListLemmas.{Somewhere, map-cases, flattened-in, flattened-cases, flat_map-is, numbered-in, numbered-cases}
 
 -- ---- fields
@@ -145,16 +147,16 @@ word-field circuit m r lt = reader-field (readers_at circuit m) (writers_at circ
 -- ---- kinds
 
 -- the channel of a top input
-pub record IsSourceWire (circuit : FlatCircuit) (listed : Listed) (w : Wire) : Type 0 where
+pub record IsInputWire (circuit : FlatCircuit) (tree : InstanceTree) (listed : Listed) (entries : List BridgeEntry) (w : Wire) : Type 0 where
   pub place : ℕ
   pub known : place < length circuit.ins
-  pub is : w ≡ wire (value_at circuit.ins place) (first_source listed + place) 0
+  pub is : w ≡ wire (value_at circuit.ins place) (giver_of (ports_of circuit tree listed entries) place) 0
 
--- the channel of a top output
-pub record IsTrayWire (circuit : FlatCircuit) (tree : InstanceTree) (listed : Listed) (w : Wire) : Type 0 where
+-- the channel of an out-signal of the top
+pub record IsOutputWire (circuit : FlatCircuit) (tree : InstanceTree) (listed : Listed) (entries : List BridgeEntry) (w : Wire) : Type 0 where
   pub place : ℕ
   pub known : place < length circuit.outs
-  pub is : w ≡ wire (value_at circuit.outs place) (owner_of circuit tree listed (value_at circuit.outs place)) (first_tray circuit listed + place)
+  pub is : w ≡ wire (value_at circuit.outs place) (owner_of circuit tree listed (value_at circuit.outs place)) (keeper_of (ports_of circuit tree listed entries) place)
 
 -- the machine at the other end of a unit's channels, and of a listed memory's
 abbrev pub outside_unit : InstanceTree → Listed → ℕ → ℕ
@@ -179,18 +181,21 @@ pub record IsFieldWire (circuit : FlatCircuit) (tree : InstanceTree) (listed : L
       ⊎ IsWordWire (readers_at circuit (memory_at tree (value_at listed.memories place)).memory) (outside_memory tree listed place) (first_memory listed + place) w
 
 -- the kind of a channel
-pub data Kind (circuit : FlatCircuit) (tree : InstanceTree) (listed : Listed) (w : Wire) : Type 0 where
-  OfSource : IsSourceWire circuit listed w → Kind circuit tree listed w
-  OfPort : IsPortWire tree listed w → Kind circuit tree listed w
-  OfField : IsFieldWire circuit tree listed w → Kind circuit tree listed w
-  OfTray : IsTrayWire circuit tree listed w → Kind circuit tree listed w
+pub data Kind (circuit : FlatCircuit) (tree : InstanceTree) (listed : Listed) (entries : List BridgeEntry) (w : Wire) : Type 0 where
+  OfInput : IsInputWire circuit tree listed entries w → Kind circuit tree listed entries w
+  OfPort : IsPortWire tree listed w → Kind circuit tree listed entries w
+  OfField : IsFieldWire circuit tree listed w → Kind circuit tree listed entries w
+  OfOutput : IsOutputWire circuit tree listed entries w → Kind circuit tree listed entries w
 
-module _ (circuit : FlatCircuit) (tree : InstanceTree) (listed : Listed) where
+module _ (circuit : FlatCircuit) (tree : InstanceTree) (listed : Listed) (entries : List BridgeEntry) where
   abbrev wires : List Wire
-  wires = wires_of circuit tree listed
+  wires = wires_of circuit tree listed entries
 
-  abbrev sources : List Wire
-  sources = numbered source_wires (first_source listed) circuit.ins
+  abbrev b : Bridges
+  b = ports_of circuit tree listed entries
+
+  abbrev inputs : List Wire
+  inputs = numbered (input_wires (ports_of circuit tree listed entries)) 0 circuit.ins
 
   abbrev ports : List Wire
   ports = numbered (port_wires tree listed.units) 1 listed.units
@@ -198,26 +203,34 @@ module _ (circuit : FlatCircuit) (tree : InstanceTree) (listed : Listed) where
   abbrev fields : List Wire
   fields = numbered (field_wires circuit tree listed.units) (first_memory listed) listed.memories
 
-  abbrev trays : List Wire
-  trays = numbered (tray_wires circuit tree listed) (first_tray circuit listed) circuit.outs
+  abbrev outputs : List Wire
+  outputs = numbered (output_wires circuit tree listed (ports_of circuit tree listed entries)) 0 circuit.outs
 
   one-plus : (i : ℕ) → 1 + i ≡ suc i
   one-plus i = omega arith
+
+  zero-plus : (i : ℕ) → 0 + i ≡ i
+  zero-plus i = omega arith
 
   only : (v w : Wire) → Contains (v ∷ []) w → v ≡ w
   only v w (zero, lt, e) = e
   only v w (suc k, lt, e) = absurd (omega (arith, lt))
 
   -- each channel is of one of these kinds
-  pub kind-of : (w : Wire) → Contains wires w → Kind circuit tree listed w
-  kind-of w h = first (Contains-append_cases sources (ports ++ (fields ++ trays)) w h)
+  pub kind-of : (w : Wire) → Contains wires w → Kind circuit tree listed entries w
+  kind-of w h = first (Contains-append_cases inputs (ports ++ (fields ++ outputs)) w h)
     where
-      source : Contains sources w → Kind circuit tree listed w
-      source r =
-          let n = numbered-cases source_wires (first_source listed) circuit.ins w r in
-          OfSource (record { place = n.place; known = n.within; is = sym (only (wire (value_at circuit.ins n.place) (first_source listed + n.place) 0) w (n.among 0)) })
+      input : Contains inputs w → Kind circuit tree listed entries w
+      input r =
+          let n = numbered-cases (input_wires b) 0 circuit.ins w r in
+          OfInput
+          (record {
+            place = n.place;
+            known = n.within;
+            is = sym (only (wire (value_at circuit.ins n.place) (giver_of b (0 + n.place)) 0) w (n.among 0)) ∙ ap (λ k. wire (value_at circuit.ins n.place) (giver_of b k) 0) (zero-plus n.place);
+          })
 
-      port : Contains ports w → Kind circuit tree listed w
+      port : Contains ports w → Kind circuit tree listed entries w
       port r =
           let n = numbered-cases (port_wires tree listed.units) 1 listed.units w r in
           let unit = value_at listed.units n.place in
@@ -233,7 +246,7 @@ module _ (circuit : FlatCircuit) (tree : InstanceTree) (listed : Listed) where
             is = s.holds any;
           })
 
-      field : Contains fields w → Kind circuit tree listed w
+      field : Contains fields w → Kind circuit tree listed entries w
       field r =
           let n = numbered-cases (field_wires circuit tree listed.units) (first_memory listed) listed.memories w r in
           let m = (memory_at tree (value_at listed.memories n.place)).memory in
@@ -244,43 +257,50 @@ module _ (circuit : FlatCircuit) (tree : InstanceTree) (listed : Listed) where
             is = fields-cases (readers_at circuit m) (writers_at circuit m) (outside_memory tree listed n.place) (first_memory listed + n.place) w (n.among 0);
           })
 
-      tray : Contains trays w → Kind circuit tree listed w
-      tray r =
-          let n = numbered-cases (tray_wires circuit tree listed) (first_tray circuit listed) circuit.outs w r in
-          OfTray (record { place = n.place; known = n.within; is = sym (only (wire (value_at circuit.outs n.place) (owner_of circuit tree listed (value_at circuit.outs n.place)) (first_tray circuit listed + n.place)) w (n.among 0)) })
+      output : Contains outputs w → Kind circuit tree listed entries w
+      output r =
+          let n = numbered-cases (output_wires circuit tree listed b) 0 circuit.outs w r in
+          let from = owner_of circuit tree listed (value_at circuit.outs n.place) in
+          OfOutput
+          (record {
+            place = n.place;
+            known = n.within;
+            is = sym (only (wire (value_at circuit.outs n.place) from (keeper_of b (0 + n.place))) w (n.among 0)) ∙ ap (λ k. wire (value_at circuit.outs n.place) from (keeper_of b k)) (zero-plus n.place);
+          })
 
-      third : Contains fields w ⊎ Contains trays w → Kind circuit tree listed w
+      third : Contains fields w ⊎ Contains outputs w → Kind circuit tree listed entries w
       third (inl r) = field r
-      third (inr r) = tray r
+      third (inr r) = output r
 
-      second : Contains ports w ⊎ Contains (fields ++ trays) w → Kind circuit tree listed w
+      second : Contains ports w ⊎ Contains (fields ++ outputs) w → Kind circuit tree listed entries w
       second (inl r) = port r
-      second (inr r) = third (Contains-append_cases fields trays w r)
+      second (inr r) = third (Contains-append_cases fields outputs w r)
 
-      first : Contains sources w ⊎ Contains (ports ++ (fields ++ trays)) w → Kind circuit tree listed w
-      first (inl r) = source r
-      first (inr r) = second (Contains-append_cases ports (fields ++ trays) w r)
+      first : Contains inputs w ⊎ Contains (ports ++ (fields ++ outputs)) w → Kind circuit tree listed entries w
+      first (inl r) = input r
+      first (inr r) = second (Contains-append_cases ports (fields ++ outputs) w r)
 
   -- ---- the channels that there are
 
-  pub source-wire : (i : ℕ) → i < length circuit.ins → Contains wires (wire (value_at circuit.ins i) (first_source listed + i) 0)
-  source-wire i lt =
-      let w = wire (value_at circuit.ins i) (first_source listed + i) 0 in
-      Contains-append_left sources (ports ++ (fields ++ trays)) w (numbered-in source_wires (first_source listed) circuit.ins i 0 w lt (0, omega arith, refl))
+  pub input-wire : (i : ℕ) → i < length circuit.ins → Contains wires (wire (value_at circuit.ins i) (giver_of (ports_of circuit tree listed entries) i) 0)
+  input-wire i lt =
+      let w = wire (value_at circuit.ins i) (giver_of b i) 0 in
+      Contains-append_left inputs (ports ++ (fields ++ outputs)) w
+      (numbered-in (input_wires b) 0 circuit.ins i 0 w lt (0, omega arith, ap (λ k. wire (value_at circuit.ins i) (giver_of b k) 0) (zero-plus i)))
 
   pub unit-wire : (i : ℕ) (port : InstancePort) → i < length listed.units → Contains (instance_at tree (value_at listed.units i)).ports port → Contains wires (port_wire (outside_unit tree listed i) (suc i) port)
   unit-wire i port lt among =
       let w = port_wire (outside_unit tree listed i) (suc i) port in
-      Contains-append_right sources (ports ++ (fields ++ trays)) w
-      (Contains-append_left ports (fields ++ trays) w
+      Contains-append_right inputs (ports ++ (fields ++ outputs)) w
+      (Contains-append_left ports (fields ++ outputs) w
       (numbered-in (port_wires tree listed.units) 1 listed.units i 0 w lt
       (subst (λ k. Contains (port_wires tree listed.units k (value_at listed.units i)) w) (sym (one-plus i)) (Contains-map (port_wire (outside_unit tree listed i) (suc i)) (instance_at tree (value_at listed.units i)).ports port among))))
 
   pub in-fields : (i : ℕ) (w : Wire) → i < length listed.memories → Contains (field_wires circuit tree listed.units (first_memory listed + i) (value_at listed.memories i)) w → Contains wires w
   in-fields i w lt h =
-      Contains-append_right sources (ports ++ (fields ++ trays)) w
-      (Contains-append_right ports (fields ++ trays) w
-      (Contains-append_left fields trays w (numbered-in (field_wires circuit tree listed.units) (first_memory listed) listed.memories i 0 w lt h)))
+      Contains-append_right inputs (ports ++ (fields ++ outputs)) w
+      (Contains-append_right ports (fields ++ outputs) w
+      (Contains-append_left fields outputs w (numbered-in (field_wires circuit tree listed.units) (first_memory listed) listed.memories i 0 w lt h)))
 
   pub memory-wire : (i s : ℕ) → i < length listed.memories → Contains (memory_fields circuit (memory_at tree (value_at listed.memories i)).memory) s → Contains wires (wire s (outside_memory tree listed i) (first_memory listed + i)) ⊎ Contains wires (wire s (first_memory listed + i) (outside_memory tree listed i))
   memory-wire i s lt h = by (field-wire (readers_at circuit m) (writers_at circuit m) (outside_memory tree listed i) (first_memory listed + i) s h)
@@ -310,9 +330,11 @@ module _ (circuit : FlatCircuit) (tree : InstanceTree) (listed : Listed) where
     pub en-wire : Contains wires (wire (reader_at readers r).en (outside_memory tree listed i) (first_memory listed + i))
     en-wire = in-fields i (wire (reader_at readers r).en (outside_memory tree listed i) (first_memory listed + i)) lt (enable-wire readers writers (outside_memory tree listed i) (first_memory listed + i) r known)
 
-  pub tray-wire : (i : ℕ) → i < length circuit.outs → Contains wires (wire (value_at circuit.outs i) (owner_of circuit tree listed (value_at circuit.outs i)) (first_tray circuit listed + i))
-  tray-wire i lt =
-      let w = wire (value_at circuit.outs i) (owner_of circuit tree listed (value_at circuit.outs i)) (first_tray circuit listed + i) in
-      Contains-append_right sources (ports ++ (fields ++ trays)) w
-      (Contains-append_right ports (fields ++ trays) w
-      (Contains-append_right fields trays w (numbered-in (tray_wires circuit tree listed) (first_tray circuit listed) circuit.outs i 0 w lt (0, omega arith, refl))))
+  pub output-wire : (i : ℕ) → i < length circuit.outs → Contains wires (wire (value_at circuit.outs i) (owner_of circuit tree listed (value_at circuit.outs i)) (keeper_of (ports_of circuit tree listed entries) i))
+  output-wire i lt =
+      let from = owner_of circuit tree listed (value_at circuit.outs i) in
+      let w = wire (value_at circuit.outs i) from (keeper_of b i) in
+      Contains-append_right inputs (ports ++ (fields ++ outputs)) w
+      (Contains-append_right ports (fields ++ outputs) w
+      (Contains-append_right fields outputs w
+      (numbered-in (output_wires circuit tree listed b) 0 circuit.outs i 0 w lt (0, omega arith, ap (λ k. wire (value_at circuit.outs i) from (keeper_of b k)) (zero-plus i)))))

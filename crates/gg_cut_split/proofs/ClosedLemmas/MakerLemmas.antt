@@ -11,10 +11,12 @@ use Rattle.gg_flat.specs.Circuit.{FlatCircuit, readers_at}
 use Rattle.gg_flat_tree.specs.Tree.{InstanceTree, IsTree, IsInnermost, instance_at, memory_at, parent_place}
 use Rattle.gg_flat_tree.specs.Scoped.{IsScoped, IsPort, IsFieldOf, IsVisible, memory_fields, output_signals, stop_signals}
 use Rattle.gg_flat.proofs.ListLemmas.{in-range, range-below, Contains-map, Contains-filter, filter-cases}
+use Rattle.gg_partfile.specs.declared.request.BridgeEntry.{BridgeEntry}
+use Rattle.gg_cut_plan.specs.Ports.{giver_of, keeper_of, ports_of}
 use Rattle.gg_cut_plan.specs.declared.wires.Wire.{Wire}
 use Rattle.gg_cut_plan.specs.declared.listed.Listed.{Listed}
 use Rattle.gg_cut_plan.specs.Listed.{first_place, owner_of_instance, owner_of, has_field, has_signal, memory_or, unit_or_hub}
-use Rattle.gg_cut_plan.specs.Machines.{first_memory, first_source, first_tray}
+use Rattle.gg_cut_plan.specs.Machines.{first_memory}
 use Rattle.gg_cut_plan.specs.Channels.{wire, wires_of, port_wire}
 use Rattle.gg_cut_plan.specs.Plan.{wire_at, channels_from, signals_of, givens_of, IsInner, Takes}
 use Rattle.gg_cut_plan.specs.inside.Plan.{Makes}
@@ -23,7 +25,7 @@ use Rattle.gg_cut_split.specs.inside.Apart.{AreApart}
 use Rattle.gg_cut_split.proofs.ClosedLemmas.ListLemmas.{Somewhere, map-cases}
 use Rattle.gg_cut_split.proofs.ClosedLemmas.TreeLemmas.{innermost-one, innermost-known}
 use Rattle.gg_cut_split.proofs.ClosedLemmas.PlaceLemmas.{IsNoUnit, place-none, owner-unit, owner-inner, owner-top, place-signal}
-use Rattle.gg_cut_split.proofs.ClosedLemmas.KindLemmas.{IsPortWire, IsFieldWire, IsInto, IsWordWire, Kind, OfSource, OfPort, OfField, OfTray, outside_unit, outside_memory, kind-of, source-wire, unit-wire, memory-wire, tray-wire, word-field}
+use Rattle.gg_cut_split.proofs.ClosedLemmas.KindLemmas.{IsPortWire, IsFieldWire, IsInto, IsWordWire, Kind, OfInput, OfPort, OfField, OfOutput, outside_unit, outside_memory, kind-of, input-wire, unit-wire, memory-wire, output-wire, word-field}
 use Rattle.gg_cut_split.proofs.ClosedLemmas.NameLemmas.{port-no-field}
 use Rattle.gg_cut_plan.proofs.WireLemmas.{unit-below}
 use Rattle.gg_cut_split.proofs.ClosedLemmas.OnceLemmas.{IsStopSignal, out-cases, stop-field, stop-in, stop-port, top-input, top-port}
@@ -123,12 +125,13 @@ any-contains (x ∷ xs) s e = by (x == s) refl e (λ f. any-contains xs s f)
     by true f e rest = (0, omega arith, true-eqb x s (sym f))
     by false f e rest = let h = rest e in (suc h.0, omega (arith, h.1), h.2)
 
-module _ (circuit : FlatCircuit) (tree : InstanceTree) (listed : Listed) where
+module _ (circuit : FlatCircuit) (tree : InstanceTree) (listed : Listed) (entries : List BridgeEntry) where
   -- a machine that gives a channel by a signal gives the channel of the signal
-  pub given-out : (m s : ℕ) → Contains (givens_of (wires_of circuit tree listed) (channels_from (wires_of circuit tree listed) m)) s → HasWire (wires_of circuit tree listed) (λ w. w.producer == m) s
+  pub given-out : (m s : ℕ) → Contains (givens_of (wires_of circuit tree listed entries) (channels_from (wires_of circuit tree listed entries) m)) s → HasWire (wires_of circuit tree listed entries) (λ w. w.producer == m) s
   given-out m s h =
-      chosen-out (wires_of circuit tree listed) (λ (w : Wire). w.producer == m) s (subst (λ (l : List ℕ). Contains l s) (givens-same circuit tree listed (channels_from (wires_of circuit tree listed) m)) h)
+      chosen-out (wires_of circuit tree listed entries) (λ (w : Wire). w.producer == m) s (subst (λ (l : List ℕ). Contains l s) (givens-same circuit tree listed entries (channels_from (wires_of circuit tree listed entries) m)) h)
 
+module _ (circuit : FlatCircuit) (tree : InstanceTree) (listed : Listed) where
   -- one of these memories has the signal as a field, or none of them has
   pub find-field-in : (places : List ℕ) (s : ℕ) → Somewhere (λ j. IsFieldOf circuit tree j s) places ⊎ All (λ j. IsFieldOf circuit tree j s → ⊥) places
   find-field-in [] s = inr (λ i d lt. absurd (omega (arith, lt)))
@@ -155,26 +158,6 @@ module _ (circuit : FlatCircuit) (tree : InstanceTree) (listed : Listed) where
       by j no-here false e = refl
 
 module _ (circuit : FlatCircuit) (tree : InstanceTree) (listed : Listed) (fits : IsTree circuit tree) (scoped : IsScoped circuit tree) (apart : AreApart tree listed) where
-  abbrev wires : List Wire
-  wires = wires_of circuit tree listed
-
-  abbrev owner : ℕ → ℕ
-  owner k = owner_of_instance tree listed.units k
-
-  -- a machine makes or takes a signal
-  abbrev pub Gets : ℕ → ℕ → Type 0
-  Gets m s = Makes circuit tree listed (wires_of circuit tree listed) m s ⊎ Takes (wires_of circuit tree listed) m s
-
-  pub gives : (s p c : ℕ) → Contains wires (wire s p c) → Makes circuit tree listed (wires_of circuit tree listed) p s
-  gives s p c h = inr (subst (λ (l : List ℕ). Contains l s) (sym (givens-same circuit tree listed (channels_from wires p))) (chosen-in wires (λ w. w.producer == p) (wire s p c) h (eq-eqb p p refl)))
-
-  pub takes : (s p c : ℕ) → Contains wires (wire s p c) → Takes (wires_of circuit tree listed) c s
-  takes s p c h = chosen-in wires (λ w. w.consumer == c) (wire s p c) h (eq-eqb c c refl)
-
-  -- a signal without a channel is the signal of no channel
-  pub no-channel : (s : ℕ) (w : Wire) → IsInner (wires_of circuit tree listed) s → Contains wires w → w.signal ≡ s → ⊥
-  no-channel s w inner h e = let c = channel-of wires w h in inner c.number c.known (ap (λ (v : Wire). v.signal) c.is ∙ e)
-
   pub field-listed : (w : Wire) → (f : IsFieldWire circuit tree listed w) → IsFieldOf circuit tree (value_at listed.memories f.place) w.signal
   field-listed w f = by f.is
     where
@@ -193,43 +176,10 @@ module _ (circuit : FlatCircuit) (tree : InstanceTree) (listed : Listed) (fits :
       by true e = ap (λ b. (if b then wire p.port.signal (outside_unit tree listed p.unit) (suc p.unit) else wire p.port.signal (suc p.unit) (outside_unit tree listed p.unit)).signal) (sym e) ∙ ap (λ (v : Wire). v.signal) p.is
       by false e = ap (λ b. (if b then wire p.port.signal (outside_unit tree listed p.unit) (suc p.unit) else wire p.port.signal (suc p.unit) (outside_unit tree listed p.unit)).signal) (sym e) ∙ ap (λ (v : Wire). v.signal) p.is
 
-  -- ---- signals without a channel
-
-  -- no channel carries the signal, and it belongs to the machine of instance k
-  pub record IsOwned (s k : ℕ) : Type 0 where
-    pub inner : IsInner (wires_of circuit tree listed) s
-    pub owner : owner_of circuit tree listed s ≡ owner_of_instance tree listed.units k
-
   pub owner-signal : (k s : ℕ) → IsInnermost tree k s → IsNoField circuit tree listed s → owner_of circuit tree listed s ≡ owner_of_instance tree listed.units k
   owner-signal k s inner none =
       ap (memory_or (length listed.units) (unit_or_hub (first_place (has_signal tree s) listed.units))) (no-field-place circuit tree listed s none)
       ∙ place-signal circuit tree listed fits apart k s inner
-
-  pub owned : (k s : ℕ) → IsInnermost tree k s → IsNoField circuit tree listed s → (IsStopSignal tree s → ⊥) → (IsPort tree k s → IsNoUnit circuit tree listed fits apart k × (0 < k)) → IsOwned s k
-  owned k s inner none no-stop lower = record { inner = λ c lt e. at (wire_at wires c) (wire-among wires c lt) e; owner = owner-signal k s inner none }
-    where
-      port-at : (j : ℕ) → IsPort tree j s → (IsPort tree k s) × (k ≡ j)
-      port-at j port = let same = innermost-one circuit tree fits k j s inner (scoped.ports j s port).own in (subst (λ i. IsPort tree i s) (sym same) port, same)
-
-      top : IsPort tree 0 s → ⊥
-      top port = let p = port-at 0 port in let low = (lower p.0).1 in omega (arith, low, p.1)
-
-      at : (w : Wire) → Contains wires w → w.signal ≡ s → ⊥
-      at w h e = by (kind-of circuit tree listed w h)
-        where
-          by : Kind circuit tree listed w → ⊥
-          by (OfSource f) =
-              top (top-port circuit tree listed fits scoped apart s (λ port. port.is_input)
-              (top-input circuit tree listed fits scoped apart s (f.place, f.known, get_or_default circuit.ins f.place s 0 f.known ∙ ap (λ (v : Wire). v.signal) (sym f.is) ∙ e)))
-          by (OfTray f) =
-              elim (out-cases circuit tree listed fits scoped apart s (f.place, f.known, get_or_default circuit.outs f.place s 0 f.known ∙ ap (λ (v : Wire). v.signal) (sym f.is) ∙ e)) [
-                | inl out ↦ top (top-port circuit tree listed fits scoped apart s (λ port. not port.is_input) out)
-                | inr stop ↦ no-stop stop
-              ]
-          by (OfPort p) =
-              let port = port-at (value_at listed.units p.unit) (subst (IsPort tree (value_at listed.units p.unit)) e (port-of w p)) in
-              absurd ((lower port.0).0 p.unit 0 p.known port.1)
-          by (OfField f) = absurd (none f.place 0 f.known (subst (IsFieldOf circuit tree (value_at listed.memories f.place)) e (field-listed w f)))
 
   -- a port is no field of a listed memory
   pub port-plain : (k s : ℕ) → IsPort tree k s → IsNoField circuit tree listed s
@@ -259,6 +209,59 @@ module _ (circuit : FlatCircuit) (tree : InstanceTree) (listed : Listed) (fits :
       let low = unit-below (has_signal tree s) listed.units in
       omega (arith, is, low)
 
+-- ---- what a machine makes and takes
+
+module _ (circuit : FlatCircuit) (tree : InstanceTree) (listed : Listed) (entries : List BridgeEntry) (fits : IsTree circuit tree) (scoped : IsScoped circuit tree) (apart : AreApart tree listed) where
+  abbrev wires : List Wire
+  wires = wires_of circuit tree listed entries
+
+  -- a machine makes or takes a signal
+  abbrev pub Gets : ℕ → ℕ → Type 0
+  Gets m s = Makes circuit tree listed (wires_of circuit tree listed entries) m s ⊎ Takes (wires_of circuit tree listed entries) m s
+
+  pub gives : (s p c : ℕ) → Contains wires (wire s p c) → Makes circuit tree listed (wires_of circuit tree listed entries) p s
+  gives s p c h = inr (subst (λ (l : List ℕ). Contains l s) (sym (givens-same circuit tree listed entries (channels_from wires p))) (chosen-in wires (λ w. w.producer == p) (wire s p c) h (eq-eqb p p refl)))
+
+  pub takes : (s p c : ℕ) → Contains wires (wire s p c) → Takes (wires_of circuit tree listed entries) c s
+  takes s p c h = chosen-in wires (λ w. w.consumer == c) (wire s p c) h (eq-eqb c c refl)
+
+  -- a signal without a channel is the signal of no channel
+  pub no-channel : (s : ℕ) (w : Wire) → IsInner (wires_of circuit tree listed entries) s → Contains wires w → w.signal ≡ s → ⊥
+  no-channel s w inner h e = let c = channel-of wires w h in inner c.number c.known (ap (λ (v : Wire). v.signal) c.is ∙ e)
+
+  -- ---- signals without a channel
+
+  -- no channel carries the signal, and it belongs to the machine of instance k
+  pub record IsOwned (s k : ℕ) : Type 0 where
+    pub inner : IsInner (wires_of circuit tree listed entries) s
+    pub owner : owner_of circuit tree listed s ≡ owner_of_instance tree listed.units k
+
+  pub owned : (k s : ℕ) → IsInnermost tree k s → IsNoField circuit tree listed s → (IsStopSignal tree s → ⊥) → (IsPort tree k s → IsNoUnit circuit tree listed fits apart k × (0 < k)) → IsOwned s k
+  owned k s inner none no-stop lower = record { inner = λ c lt e. at (wire_at wires c) (wire-among wires c lt) e; owner = owner-signal circuit tree listed fits scoped apart k s inner none }
+    where
+      port-at : (j : ℕ) → IsPort tree j s → (IsPort tree k s) × (k ≡ j)
+      port-at j port = let same = innermost-one circuit tree fits k j s inner (scoped.ports j s port).own in (subst (λ i. IsPort tree i s) (sym same) port, same)
+
+      top : IsPort tree 0 s → ⊥
+      top port = let p = port-at 0 port in let low = (lower p.0).1 in omega (arith, low, p.1)
+
+      at : (w : Wire) → Contains wires w → w.signal ≡ s → ⊥
+      at w h e = by (kind-of circuit tree listed entries w h)
+        where
+          by : Kind circuit tree listed entries w → ⊥
+          by (OfInput f) =
+              top (top-port circuit tree listed fits scoped apart s (λ port. port.is_input)
+              (top-input circuit tree listed fits scoped apart s (f.place, f.known, get_or_default circuit.ins f.place s 0 f.known ∙ ap (λ (v : Wire). v.signal) (sym f.is) ∙ e)))
+          by (OfOutput f) =
+              elim (out-cases circuit tree listed fits scoped apart s (f.place, f.known, get_or_default circuit.outs f.place s 0 f.known ∙ ap (λ (v : Wire). v.signal) (sym f.is) ∙ e)) [
+                | inl out ↦ top (top-port circuit tree listed fits scoped apart s (λ port. not port.is_input) out)
+                | inr stop ↦ no-stop stop
+              ]
+          by (OfPort p) =
+              let port = port-at (value_at listed.units p.unit) (subst (IsPort tree (value_at listed.units p.unit)) e (port-of circuit tree listed fits scoped apart w p)) in
+              absurd ((lower port.0).0 p.unit 0 p.known port.1)
+          by (OfField f) = absurd (none f.place 0 f.known (subst (IsFieldOf circuit tree (value_at listed.memories f.place)) e (field-listed circuit tree listed fits scoped apart w f)))
+
   -- ---- what is visible
 
   -- a unit's port has a channel between the unit and the machine outside
@@ -266,7 +269,7 @@ module _ (circuit : FlatCircuit) (tree : InstanceTree) (listed : Listed) (fits :
   unit-ends i s lt h = by h.port.is_input refl
     where
       w : Contains wires (port_wire (outside_unit tree listed i) (suc i) h.port)
-      w = unit-wire circuit tree listed i h.port lt h.among
+      w = unit-wire circuit tree listed entries i h.port lt h.among
 
       by : (b : Bool) → h.port.is_input ≡ b → Contains wires (wire s (outside_unit tree listed i) (suc i)) ⊎ Contains wires (wire s (suc i) (outside_unit tree listed i))
       by true e =
@@ -276,14 +279,14 @@ module _ (circuit : FlatCircuit) (tree : InstanceTree) (listed : Listed) (fits :
           inr (subst (λ t. Contains wires (wire t (suc i) (outside_unit tree listed i))) h.is
           (subst (λ b. Contains wires (if b then wire h.port.signal (outside_unit tree listed i) (suc i) else wire h.port.signal (suc i) (outside_unit tree listed i))) e w))
 
-  -- the owner of an out-signal gives it to a tray
+  -- the owner of an out-signal gives it
   out-gets : (s : ℕ) → Contains circuit.outs s → Gets (owner_of circuit tree listed s) s
   out-gets s c =
       let is : value_at circuit.outs c.0 ≡ s = get_or_default circuit.outs c.0 0 s c.1 ∙ c.2 in
-      inl (subst (λ t. Makes circuit tree listed (wires_of circuit tree listed) (owner_of circuit tree listed t) t) is
-      (gives (value_at circuit.outs c.0) (owner_of circuit tree listed (value_at circuit.outs c.0)) (first_tray circuit listed + c.0) (tray-wire circuit tree listed c.0 c.1)))
+      inl (subst (λ t. Makes circuit tree listed (wires_of circuit tree listed entries) (owner_of circuit tree listed t) t) is
+      (gives (value_at circuit.outs c.0) (owner_of circuit tree listed (value_at circuit.outs c.0)) (keeper_of (ports_of circuit tree listed entries) c.0) (output-wire circuit tree listed entries c.0 c.1)))
 
-  -- a top port has a channel from its source to the hub, or from the hub to its tray
+  -- a top port has a channel into the hub, or out of it
   top-ends : (s : ℕ) → HasPort (instance_at tree 0).ports s → Gets 0 s
   top-ends s h = by h.port.is_input refl
     where
@@ -292,12 +295,12 @@ module _ (circuit : FlatCircuit) (tree : InstanceTree) (listed : Listed) (fits :
           (Contains-map (λ (port : InstancePort). port.signal) (filter (λ port. port.is_input) (instance_at tree 0).ports) h.port (Contains-filter (λ port. port.is_input) (instance_at tree 0).ports h.port h.among e))))
         where
           at : Contains circuit.ins s → Gets 0 s
-          at c = inr (subst (λ t. Takes (wires_of circuit tree listed) 0 t) (get_or_default circuit.ins c.0 0 s c.1 ∙ c.2) (takes (value_at circuit.ins c.0) (first_source listed + c.0) 0 (source-wire circuit tree listed c.0 c.1)))
+          at c = inr (subst (λ t. Takes (wires_of circuit tree listed entries) 0 t) (get_or_default circuit.ins c.0 0 s c.1 ∙ c.2) (takes (value_at circuit.ins c.0) (giver_of (ports_of circuit tree listed entries) c.0) 0 (input-wire circuit tree listed entries c.0 c.1)))
       by false e = at (subst (λ (l : List ℕ). Contains l s) scoped.outs (Contains-append_left (output_signals (instance_at tree 0).ports) (stop_signals tree) s (subst (λ t. Contains (map (λ (port : InstancePort). port.signal) (filter (λ port. not port.is_input) (instance_at tree 0).ports)) t) h.is
           (Contains-map (λ (port : InstancePort). port.signal) (filter (λ port. not port.is_input) (instance_at tree 0).ports) h.port (Contains-filter (λ port. not port.is_input) (instance_at tree 0).ports h.port h.among (ap not e))))))
         where
           at : Contains circuit.outs s → Gets 0 s
-          at c = subst (λ m. Gets m s) (top-owner s (record { known = fits.top.there; port = h.port; listed = h.among; is = h.is })) (out-gets s c)
+          at c = subst (λ m. Gets m s) (top-owner circuit tree listed fits scoped apart s (record { known = fits.top.there; port = h.port; listed = h.among; is = h.is })) (out-gets s c)
 
   owned-gets : (k s : ℕ) → IsInnermost tree k s → IsOwned s k → Gets (owner_of_instance tree listed.units k) s
   owned-gets k s inner o = inl (inl (innermost-known circuit tree fits k s inner, o.owner, o.inner))
@@ -319,14 +322,14 @@ module _ (circuit : FlatCircuit) (tree : InstanceTree) (listed : Listed) (fits :
           (unit at.place at.within (unit-ends at.place s at.within (subst (λ j. HasPort (instance_at tree j).ports s) same h)))
       by (inr none) (inl zeroth) =
           subst (λ m. Gets m s) (sym (ap (λ j. owner_of_instance tree listed.units j) zeroth ∙ owner-top circuit tree listed fits apart)) (top-ends s (subst (λ j. HasPort (instance_at tree j).ports s) zeroth h))
-      by (inr none) (inr ne) = owned-gets k s inner (owned k s inner (port-plain k s port) (λ stop. stop-port circuit tree listed fits scoped apart k s stop port) (λ p. (none, positive k ne)))
+      by (inr none) (inr ne) = owned-gets k s inner (owned k s inner (port-plain circuit tree listed fits scoped apart k s port) (λ stop. stop-port circuit tree listed fits scoped apart k s stop port) (λ p. (none, positive k ne)))
         where
           positive : (n : ℕ) → (n ≡ 0 → ⊥) → 0 < n
           positive zero f = absurd (f refl)
           positive (suc n) f = omega arith
 
   own-field : (k s : ℕ) → IsInnermost tree k s → Somewhere (λ j. IsFieldOf circuit tree j s) listed.memories → Gets (owner_of_instance tree listed.units k) s
-  own-field k s inner at = by (memory-wire circuit tree listed i s at.within (at.holds 0))
+  own-field k s inner at = by (memory-wire circuit tree listed entries i s at.within (at.holds 0))
     where
       i : ℕ
       i = at.place
@@ -348,7 +351,7 @@ module _ (circuit : FlatCircuit) (tree : InstanceTree) (listed : Listed) (fits :
       by (inr no-port) (inr none) =
           elim (find-number (stop_signals tree) s) [
             | inl stop ↦
-                subst (λ m. Gets m s) (owner-signal k s inner none)
+                subst (λ m. Gets m s) (owner-signal circuit tree listed fits scoped apart k s inner none)
                 (out-gets s (subst (λ (l : List ℕ). Contains l s) scoped.outs (Contains-append_right (output_signals (instance_at tree 0).ports) (stop_signals tree) s stop)))
             | inr no-stop ↦
                 owned-gets k s inner
@@ -378,7 +381,7 @@ module _ (circuit : FlatCircuit) (tree : InstanceTree) (listed : Listed) (fits :
       by (inr none) =
           let inner = (scoped.ports c s port).own in
           subst (λ m. Gets m s) (owner-inner circuit tree listed fits apart c k port.known parent none)
-          (owned-gets c s inner (owned c s inner (port-plain c s port) (λ stop. stop-port circuit tree listed fits scoped apart c s stop port) (λ p. (none, lower c parent))))
+          (owned-gets c s inner (owned c s inner (port-plain circuit tree listed fits scoped apart c s port) (λ stop. stop-port circuit tree listed fits scoped apart c s stop port) (λ p. (none, lower c parent))))
 
   -- the machine of an instance makes or takes what is visible in the instance
   pub visible : (k t : ℕ) → IsVisible tree k t → Gets (owner_of_instance tree listed.units k) t

@@ -12,6 +12,7 @@ use Rattle.gg_flat_tree.specs.Tree.{InstanceTree, IsTree, instance_at, memory_at
 use Rattle.gg_flat_tree.specs.declared.tree.StopInstance.{StopInstance}
 use Rattle.gg_flat_tree.specs.Scoped.{IsScoped, IsPort, IsFieldOf, memory_fields, output_signals, stop_signals}
 use Rattle.gg_flat.proofs.ListLemmas.{filter-cases, once-apart}
+use Rattle.gg_partfile.specs.declared.request.BridgeEntry.{BridgeEntry}
 use Rattle.gg_cut_plan.specs.declared.wires.Wire.{Wire}
 use Rattle.gg_cut_plan.specs.declared.listed.Listed.{Listed}
 use Rattle.gg_cut_plan.specs.Listed.{lies}
@@ -180,7 +181,7 @@ module _ (circuit : FlatCircuit) (tree : InstanceTree) (listed : Listed) (fits :
       port-no-field circuit tree fits scoped k (value_at listed.memories at.place) s (apart.memories at.place 0 at.within) port (at.holds 0)
 
   -- the out-signals are distinct
-  outs-once : AllPairs (λ a b. a ≢ b) circuit.outs
+  pub outs-once : AllPairs (λ a b. a ≢ b) circuit.outs
   outs-once =
       subst (AllPairs (λ a b. a ≢ b)) scoped.outs
       (AllPairs-append (λ a b. a ≢ b) (output_signals (instance_at tree 0).ports) (stop_signals tree) (tops-once (λ port. not port.is_input)) scoped.stops_once
@@ -248,13 +249,16 @@ module _ (circuit : FlatCircuit) (tree : InstanceTree) (listed : Listed) (fits :
               at (inl m) = no-field 0 s (input s x) m
               at (inr o) = both s x o
 
-  pub wires-once : AllPairs (λ a b. a ≢ b) (map (λ (w : Wire). w.signal) (wires_of circuit tree listed))
-  wires-once = subst (AllPairs (λ a b. a ≢ b)) (sym (wires-signals circuit tree listed)) signals-once
+-- ---- channels
+
+module _ (circuit : FlatCircuit) (tree : InstanceTree) (listed : Listed) (entries : List BridgeEntry) (fits : IsTree circuit tree) (scoped : IsScoped circuit tree) (apart : AreApart tree listed) where
+  pub wires-once : AllPairs (λ a b. a ≢ b) (map (λ (w : Wire). w.signal) (wires_of circuit tree listed entries))
+  wires-once = subst (AllPairs (λ a b. a ≢ b)) (sym (wires-signals circuit tree listed entries)) (signals-once circuit tree listed fits scoped apart)
 
   -- two channels of the same signal are the same
-  pub channel-one : (v w : Wire) → Contains (wires_of circuit tree listed) v → Contains (wires_of circuit tree listed) w → v.signal ≡ w.signal → v ≡ w
+  pub channel-one : (v w : Wire) → Contains (wires_of circuit tree listed entries) v → Contains (wires_of circuit tree listed entries) w → v.signal ≡ w.signal → v ≡ w
   channel-one v w a b same =
-      let all = wires_of circuit tree listed in
+      let all = wires_of circuit tree listed entries in
       let count = length-map all (λ (w : Wire). w.signal) in
       let at = λ (i : ℕ) (x : Wire) (lt : i < length all) (is : get_or all i x ≡ x). get_or-map (λ (w : Wire). w.signal) all i x 0 lt ∙ ap (λ (w : Wire). w.signal) is in
       let place = once-apart (map (λ (w : Wire). w.signal) all) 0 wires-once a.0 b.0 (omega (arith, a.1, count)) (omega (arith, b.1, count)) (at a.0 v a.1 a.2 ∙ same ∙ sym (at b.0 w b.1 b.2)) in

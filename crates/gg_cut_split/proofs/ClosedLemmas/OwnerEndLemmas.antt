@@ -1,5 +1,5 @@
 -- The owner of a channel's signal is at one of the channel's ends.
-use Rattle.std.proofs.Common.{◌≡◌, ℕ, suc, ◌+◌, ◌<◌, length, get_or, Bool, true, false, refl, sym, ◌∙◌, ap, subst, inl, inr, ◌⊎◌, eq-eqb, arith}
+use Rattle.std.proofs.Common.{◌≡◌, ℕ, suc, ◌+◌, ◌<◌, List, length, get_or, Bool, true, false, refl, sym, ◌∙◌, ap, subst, inl, inr, ◌⊎◌, eq-eqb, arith}
 use Rattle.std.specs.Prelude.{◌==◌, if◌then◌else◌, All, Contains}
 use Rattle.std.proofs.lemmas.List.{get_or_default}
 use Rattle.std.proofs.lemmas.List.Elements.{Contains-get_or}
@@ -8,6 +8,7 @@ use Rattle.gg_flat.specs.Line.{value_at}
 use Rattle.gg_flat.specs.Circuit.{FlatCircuit, readers_at}
 use Rattle.gg_flat_tree.specs.Tree.{InstanceTree, IsTree, memory_at}
 use Rattle.gg_flat_tree.specs.Scoped.{IsScoped, IsFieldOf, memory_fields}
+use Rattle.gg_partfile.specs.declared.request.BridgeEntry.{BridgeEntry}
 use Rattle.gg_cut_plan.specs.declared.wires.Wire.{Wire}
 use Rattle.gg_cut_plan.specs.declared.listed.Listed.{Listed}
 use Rattle.gg_cut_plan.specs.Listed.{first_place, unit_or_hub, owner_of, has_signal, has_field, memory_or}
@@ -15,7 +16,7 @@ use Rattle.gg_cut_plan.specs.Machines.{first_memory}
 use Rattle.gg_cut_plan.specs.Channels.{wire, wires_of}
 use Rattle.gg_cut_split.specs.inside.Apart.{AreApart, IsOwnerAtEnd}
 use Rattle.gg_cut_split.proofs.ClosedLemmas.PlaceLemmas.{place-is, owner-unit}
-use Rattle.gg_cut_split.proofs.ClosedLemmas.KindLemmas.{IsInto, IsWordWire, Kind, OfSource, OfPort, OfField, OfTray, outside_unit, outside_memory, kind-of}
+use Rattle.gg_cut_split.proofs.ClosedLemmas.KindLemmas.{IsInto, IsWordWire, Kind, OfInput, OfPort, OfField, OfOutput, outside_unit, outside_memory, kind-of}
 use Rattle.gg_cut_split.proofs.ClosedLemmas.NameLemmas.{field-one}
 use Rattle.gg_cut_split.proofs.ClosedLemmas.OnceLemmas.{top-input, top-port}
 use Rattle.gg_cut_split.proofs.ClosedLemmas.MakerLemmas.{any-contains, port-of, port-owner, top-owner, field-listed}
@@ -45,14 +46,15 @@ module _ (circuit : FlatCircuit) (tree : InstanceTree) (listed : Listed) (fits :
           absurd (omega (arith, order, same, get_or_default listed.memories j d 0 inside))
       earlier j d less false e = refl
 
-  -- ---- channels
+-- ---- channels
 
-  end-of : (w : Wire) → Contains (wires_of circuit tree listed) w → Kind circuit tree listed w → IsOwnerAtEnd circuit tree listed w
-  end-of w h (OfSource f) =
+module _ (circuit : FlatCircuit) (tree : InstanceTree) (listed : Listed) (entries : List BridgeEntry) (fits : IsTree circuit tree) (scoped : IsScoped circuit tree) (apart : AreApart tree listed) where
+  end-of : (w : Wire) → Contains (wires_of circuit tree listed entries) w → Kind circuit tree listed entries w → IsOwnerAtEnd circuit tree listed w
+  end-of w h (OfInput f) =
       subst (IsOwnerAtEnd circuit tree listed) (sym f.is)
       (inr (sym (top-owner circuit tree listed fits scoped apart (value_at circuit.ins f.place) (top-port circuit tree listed fits scoped apart (value_at circuit.ins f.place) (λ port. port.is_input)
       (top-input circuit tree listed fits scoped apart (value_at circuit.ins f.place) (Contains-get_or circuit.ins f.place 0 f.known))))))
-  end-of w h (OfTray f) =
+  end-of w h (OfOutput f) =
       subst (IsOwnerAtEnd circuit tree listed) (sym f.is) (inl refl)
   end-of w h (OfPort p) = by p.port.is_input p.is
     where
@@ -65,15 +67,15 @@ module _ (circuit : FlatCircuit) (tree : InstanceTree) (listed : Listed) (fits :
   end-of w h (OfField f) = by f.is
     where
       owns : owner_of circuit tree listed w.signal ≡ first_memory listed + f.place
-      owns = field-owner f.place w.signal f.known (field-listed circuit tree listed fits scoped apart w f)
+      owns = field-owner circuit tree listed fits scoped apart f.place w.signal f.known (field-listed circuit tree listed fits scoped apart w f)
 
       by : IsInto (memory_fields circuit (memory_at tree (value_at listed.memories f.place)).memory) (outside_memory tree listed f.place) (first_memory listed + f.place) w
           ⊎ IsWordWire (readers_at circuit (memory_at tree (value_at listed.memories f.place)).memory) (outside_memory tree listed f.place) (first_memory listed + f.place) w → IsOwnerAtEnd circuit tree listed w
       by (inl into) = inr (into.consumer ∙ sym owns)
       by (inr word) = inl (ap (λ (v : Wire). v.producer) word.is ∙ sym owns)
 
-  pub owners-at-ends : All (IsOwnerAtEnd circuit tree listed) (wires_of circuit tree listed)
+  pub owners-at-ends : All (IsOwnerAtEnd circuit tree listed) (wires_of circuit tree listed entries)
   owners-at-ends k d lt =
-      let w = get_or (wires_of circuit tree listed) k d in
-      let h = Contains-get_or (wires_of circuit tree listed) k d lt in
-      end-of w h (kind-of circuit tree listed w h)
+      let w = get_or (wires_of circuit tree listed entries) k d in
+      let h = Contains-get_or (wires_of circuit tree listed entries) k d lt in
+      end-of w h (kind-of circuit tree listed entries w h)

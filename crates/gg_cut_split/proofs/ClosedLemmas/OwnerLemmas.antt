@@ -7,7 +7,8 @@ use Rattle.gg_part.specs.KeepsToTree.{KeepsToTree}
 use Rattle.gg_order.specs.Design.{Ordered}
 use Rattle.gg_partfile.specs.declared.request.Request.{Request}
 use Rattle.gg_cut_plan.specs.Fault.{first_fault}
-use Rattle.gg_cut_plan.specs.inside.Plan.{cut_names, tray_names}
+use Rattle.gg_cut_plan.specs.Plan.{machine_names, open_tray_names}
+use Rattle.gg_cut_plan.specs.Ports.{open_ins}
 use Rattle.gg_cut_plan.specs.Listed.{is_among, listed_of, owner_of, owner_of_instance, memory_owner}
 use Rattle.gg_cut_split.specs.inside.Apart.{AreApart}
 use Rattle.gg_cut_split.specs.inside.Longest.{HoldsPath, Covers, IsOfLongest, listed_paths, IsLongestHolder, IsLongestCover}
@@ -44,10 +45,11 @@ module _ (design : Ordered) (request : Request) (keeps : KeepsToTree design.circ
       (memory-longest design.circuit design.tree (listed_of design.tree request) keeps.fitting keeps.scoped apart (listed_paths design.tree request) are j lt)
 
 -- the name of a listed path's machine is that path
-pub machine-name : (design : Ordered) (request : Request) (k : ℕ) → KeepsToTree design.circuit design.tree → k < length (listed_paths design.tree request) → path_at (cut_names design request (listed_of design.tree request)) (k + 1) ≡ path_at (listed_paths design.tree request) k
+pub machine-name : (design : Ordered) (request : Request) (k : ℕ) → KeepsToTree design.circuit design.tree → k < length (listed_paths design.tree request) → path_at (machine_names design request (listed_of design.tree request)) (k + 1) ≡ path_at (listed_paths design.tree request) k
 machine-name design request k keeps lt =
-    ap (path_at (cut_names design request (listed_of design.tree request))) (let next : k + 1 ≡ suc k = omega arith in next)
-    ∙ ap (λ l. path_at (((request.units ++ l) ++ sources) ++ trays) k) (memory-paths design.tree request keeps.fitting.memory_named)
+    ap (path_at (machine_names design request (listed_of design.tree request))) (let next : k + 1 ≡ suc k = omega arith in next)
+    ∙ ap (λ l. path_at ((((request.units ++ l) ++ sources) ++ trays) ++ bridges) k) (memory-paths design.tree request keeps.fitting.memory_named)
+    ∙ get_or_append_left (((request.units ++ kept) ++ sources) ++ trays) bridges [] k (omega (arith, lt, length-append (request.units ++ kept) sources, length-append ((request.units ++ kept) ++ sources) trays))
     ∙ get_or_append_left ((request.units ++ kept) ++ sources) trays [] k (omega (arith, lt, length-append (request.units ++ kept) sources))
     ∙ get_or_append_left (request.units ++ kept) sources [] k lt
   where
@@ -55,7 +57,10 @@ machine-name design request k keeps lt =
     kept = filter (is_among request.memories) design.tree.memory_paths
 
     sources : List (List ℕ)
-    sources = map (λ s. codes "in:" ++ path_at design.circuit.paths s) design.circuit.ins
+    sources = map (λ s. codes "in:" ++ path_at design.circuit.paths s) (open_ins design.circuit request)
 
     trays : List (List ℕ)
-    trays = tray_names design
+    trays = open_tray_names design request
+
+    bridges : List (List ℕ)
+    bridges = map (λ entry. codes "bridge:" ++ entry.name) request.bridges

@@ -17,7 +17,7 @@ use Rattle.gg_partfile.specs.declared.request.Request.{Request}
 use Rattle.gg_partfile.specs.Request.{no_request}
 use Rattle.gg_cut_plan.specs.Listed.{listed_of, owner_of, owner_of_instance, memory_owner}
 use Rattle.gg_cut_plan.specs.Fault.{rest_behind, fault_in}
-use Rattle.gg_cut_plan.specs.inside.Plan.{cut_names}
+use Rattle.gg_cut_plan.specs.Plan.{machine_names}
 use Rattle.gg_cut_plan.proofs.WorkedPair.{output}
 use Rattle.gg_cut_split.specs.inside.Longest.{HoldsPath, Covers, listed_paths, IsLongestHolder, IsLongestCover}
 
@@ -103,7 +103,7 @@ paths-of-two : listed_paths tree two ≡ codes "c" ∷ codes "c.m" ∷ codes "c.
 paths-of-two = refl
 
 -- the names of the machines after the hub
-names-of-two : map (path_at (cut_names design two (listed_of tree two))) (1 ∷ 2 ∷ 3 ∷ []) ≡ listed_paths tree two
+names-of-two : map (path_at (machine_names design two (listed_of tree two))) (1 ∷ 2 ∷ 3 ∷ []) ≡ listed_paths tree two
 names-of-two = refl
 
 -- owners by the tree: of `top`, `c.x`, `c.m.r.addr`, `c.m.r.data`, `c.n.r.addr`, `c.d.y`, `cc.x`

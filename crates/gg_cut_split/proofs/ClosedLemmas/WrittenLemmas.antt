@@ -9,6 +9,9 @@ use Rattle.gg_flat.specs.Circuit.{FlatCircuit, readers_at, reader_at}
 use Rattle.gg_flat_tree.specs.Tree.{InstanceTree, IsTree, IsInnermost, instance_at, memory_at, parent_place, stop_at}
 use Rattle.gg_flat_tree.specs.Scoped.{IsScoped, IsInputOf, IsFieldOf, IsWritten, memory_fields}
 use Rattle.gg_flat.proofs.ListLemmas.{Contains-map, Contains-filter}
+use Rattle.gg_partfile.specs.declared.request.BridgeEntry.{BridgeEntry}
+use Rattle.gg_cut_plan.specs.Ports.{giver_of, ports_of}
+use Rattle.gg_cut_plan.proofs.PortLemmas.{giver-low}
 use Rattle.gg_cut_plan.specs.declared.wires.Wire.{Wire}
 use Rattle.gg_cut_plan.specs.declared.listed.Listed.{Listed}
 use Rattle.gg_cut_plan.specs.Listed.{owner_of_instance, owner_of}
@@ -20,7 +23,7 @@ use Rattle.gg_cut_split.specs.inside.Apart.{AreApart}
 use Rattle.gg_cut_split.proofs.ClosedLemmas.ListLemmas.{Somewhere}
 use Rattle.gg_cut_split.proofs.ClosedLemmas.TreeLemmas.{Innermost, innermost}
 use Rattle.gg_cut_split.proofs.ClosedLemmas.PlaceLemmas.{owner-unit, owner-inner, owner-top}
-use Rattle.gg_cut_split.proofs.ClosedLemmas.KindLemmas.{IsPortWire, IsFieldWire, IsInto, IsWordWire, Kind, OfSource, OfPort, OfField, OfTray, outside_unit, outside_memory, kind-of, source-wire, unit-wire, memory-wire}
+use Rattle.gg_cut_split.proofs.ClosedLemmas.KindLemmas.{IsPortWire, IsFieldWire, IsInto, IsWordWire, Kind, OfInput, OfPort, OfField, OfOutput, outside_unit, outside_memory, kind-of, input-wire, unit-wire, memory-wire}
 use Rattle.gg_cut_split.proofs.ClosedLemmas.NameLemmas.{port-no-field}
 use Rattle.gg_cut_split.proofs.ClosedLemmas.OnceLemmas.{out-cases, port-one, stop-port, top-port}
 use Rattle.gg_cut_split.proofs.ClosedLemmas.MakerLemmas.{HasPort, HasWire, find-port, find-unit, find-field-in, IsNoField, given-out, no-channel, out-plain, owner-signal, top-owner}
@@ -40,9 +43,9 @@ pub record IsWrittenIn (tree : InstanceTree) (listed : Listed) (m s : ℕ) : Typ
   pub written : IsWritten tree place s
   pub owner : owner_of_instance tree listed.units place ≡ m
 
-module _ (circuit : FlatCircuit) (tree : InstanceTree) (listed : Listed) (fits : IsTree circuit tree) (scoped : IsScoped circuit tree) (apart : AreApart tree listed) where
+module _ (circuit : FlatCircuit) (tree : InstanceTree) (listed : Listed) (entries : List BridgeEntry) (fits : IsTree circuit tree) (scoped : IsScoped circuit tree) (apart : AreApart tree listed) where
   abbrev wires : List Wire
-  wires = wires_of circuit tree listed
+  wires = wires_of circuit tree listed entries
 
   abbrev unit_at : ℕ → ℕ
   unit_at i = value_at listed.units i
@@ -70,19 +73,19 @@ module _ (circuit : FlatCircuit) (tree : InstanceTree) (listed : Listed) (fits :
   -- ---- a signal without a channel
 
   -- a signal without a channel is no field of a listed memory
-  pub inner-plain : (s : ℕ) → IsInner (wires_of circuit tree listed) s → IsNoField circuit tree listed s
+  pub inner-plain : (s : ℕ) → IsInner (wires_of circuit tree listed entries) s → IsNoField circuit tree listed s
   inner-plain s inner = by (find-field-in circuit tree listed listed.memories s)
     where
       by : Somewhere (λ j. IsFieldOf circuit tree j s) listed.memories ⊎ All (λ j. IsFieldOf circuit tree j s → ⊥) listed.memories → IsNoField circuit tree listed s
       by (inr none) = none
-      by (inl at) = absurd (has (memory-wire circuit tree listed at.place s at.within (at.holds 0)))
+      by (inl at) = absurd (has (memory-wire circuit tree listed entries at.place s at.within (at.holds 0)))
         where
-          has : Contains (wires_of circuit tree listed) (wire s (outside_memory tree listed at.place) (first_memory listed + at.place)) ⊎ Contains (wires_of circuit tree listed) (wire s (first_memory listed + at.place) (outside_memory tree listed at.place)) → ⊥
-          has (inl w) = no-channel circuit tree listed fits scoped apart s (wire s (outside_memory tree listed at.place) (first_memory listed + at.place)) inner w refl
-          has (inr w) = no-channel circuit tree listed fits scoped apart s (wire s (first_memory listed + at.place) (outside_memory tree listed at.place)) inner w refl
+          has : Contains (wires_of circuit tree listed entries) (wire s (outside_memory tree listed at.place) (first_memory listed + at.place)) ⊎ Contains (wires_of circuit tree listed entries) (wire s (first_memory listed + at.place) (outside_memory tree listed at.place)) → ⊥
+          has (inl w) = no-channel circuit tree listed entries fits scoped apart s (wire s (outside_memory tree listed at.place) (first_memory listed + at.place)) inner w refl
+          has (inr w) = no-channel circuit tree listed entries fits scoped apart s (wire s (first_memory listed + at.place) (outside_memory tree listed at.place)) inner w refl
 
   -- nor is it a port of a unit, or an input of the top
-  inner-no-unit : (k s : ℕ) → IsInner (wires_of circuit tree listed) s → HasPort (instance_at tree k).ports s → All (λ unit. k ≢ unit) listed.units
+  inner-no-unit : (k s : ℕ) → IsInner (wires_of circuit tree listed entries) s → HasPort (instance_at tree k).ports s → All (λ unit. k ≢ unit) listed.units
   inner-no-unit k s inner h = by (find-unit listed.units k)
     where
       by : Somewhere (λ unit. k ≡ unit) listed.units ⊎ All (λ unit. k ≢ unit) listed.units → All (λ unit. k ≢ unit) listed.units
@@ -94,17 +97,17 @@ module _ (circuit : FlatCircuit) (tree : InstanceTree) (listed : Listed) (fits :
 
           has : (b : Bool) → h.port.is_input ≡ b → ⊥
           has true e =
-              no-channel circuit tree listed fits scoped apart s (wire h.port.signal (outside_unit tree listed at.place) (suc at.place)) inner
-              (subst (λ b. Contains (wires_of circuit tree listed) (if b then wire h.port.signal (outside_unit tree listed at.place) (suc at.place) else wire h.port.signal (suc at.place) (outside_unit tree listed at.place))) e
-              (unit-wire circuit tree listed at.place h.port at.within among))
+              no-channel circuit tree listed entries fits scoped apart s (wire h.port.signal (outside_unit tree listed at.place) (suc at.place)) inner
+              (subst (λ b. Contains (wires_of circuit tree listed entries) (if b then wire h.port.signal (outside_unit tree listed at.place) (suc at.place) else wire h.port.signal (suc at.place) (outside_unit tree listed at.place))) e
+              (unit-wire circuit tree listed entries at.place h.port at.within among))
               h.is
           has false e =
-              no-channel circuit tree listed fits scoped apart s (wire h.port.signal (suc at.place) (outside_unit tree listed at.place)) inner
-              (subst (λ b. Contains (wires_of circuit tree listed) (if b then wire h.port.signal (outside_unit tree listed at.place) (suc at.place) else wire h.port.signal (suc at.place) (outside_unit tree listed at.place))) e
-              (unit-wire circuit tree listed at.place h.port at.within among))
+              no-channel circuit tree listed entries fits scoped apart s (wire h.port.signal (suc at.place) (outside_unit tree listed at.place)) inner
+              (subst (λ b. Contains (wires_of circuit tree listed entries) (if b then wire h.port.signal (outside_unit tree listed at.place) (suc at.place) else wire h.port.signal (suc at.place) (outside_unit tree listed at.place))) e
+              (unit-wire circuit tree listed entries at.place h.port at.within among))
               h.is
 
-  inner-lower : (k s : ℕ) → IsInner (wires_of circuit tree listed) s → (h : HasPort (instance_at tree k).ports s) → h.port.is_input ≡ true → 0 < k
+  inner-lower : (k s : ℕ) → IsInner (wires_of circuit tree listed entries) s → (h : HasPort (instance_at tree k).ports s) → h.port.is_input ≡ true → 0 < k
   inner-lower k s inner h e = positive k (λ zeroth. top zeroth)
     where
       input : k ≡ 0 → Contains circuit.ins s
@@ -117,9 +120,9 @@ module _ (circuit : FlatCircuit) (tree : InstanceTree) (listed : Listed) (fits :
       top : k ≡ 0 → ⊥
       top zeroth =
           let c = input zeroth in
-          no-channel circuit tree listed fits scoped apart s (wire (value_at circuit.ins c.0) (first_source listed + c.0) 0) inner (source-wire circuit tree listed c.0 c.1) (get_or_default circuit.ins c.0 0 s c.1 ∙ c.2)
+          no-channel circuit tree listed entries fits scoped apart s (wire (value_at circuit.ins c.0) (giver_of (ports_of circuit tree listed entries) c.0) 0) inner (input-wire circuit tree listed entries c.0 c.1) (get_or_default circuit.ins c.0 0 s c.1 ∙ c.2)
 
-  inner-written : (m s : ℕ) → s < length circuit.signals → owner_of circuit tree listed s ≡ m → IsInner (wires_of circuit tree listed) s → IsWrittenIn tree listed m s
+  inner-written : (m s : ℕ) → s < length circuit.signals → owner_of circuit tree listed s ≡ m → IsInner (wires_of circuit tree listed entries) s → IsWrittenIn tree listed m s
   inner-written m s lt owns inner = by at.is (find-port (instance_at tree at.place).ports s)
     where
       at : Innermost circuit tree fits s
@@ -231,21 +234,21 @@ module _ (circuit : FlatCircuit) (tree : InstanceTree) (listed : Listed) (fits :
       ]
 
   -- what a machine before the sources makes
-  pub made : (m s : ℕ) → m < first_source listed → Makes circuit tree listed (wires_of circuit tree listed) m s → IsWrittenIn tree listed m s ⊎ IsWord circuit tree listed m s
+  pub made : (m s : ℕ) → m < first_source listed → Makes circuit tree listed (wires_of circuit tree listed entries) m s → IsWrittenIn tree listed m s ⊎ IsWord circuit tree listed m s
   made m s low (inl own) = inl (inner-written m s own.0 own.1 own.2)
-  made m s low (inr h) = by (kind-of circuit tree listed w.wire w.among)
+  made m s low (inr h) = by (kind-of circuit tree listed entries w.wire w.among)
     where
-      w : HasWire (wires_of circuit tree listed) (λ (v : Wire). v.producer == m) s
-      w = given-out circuit tree listed m s h
+      w : HasWire (wires_of circuit tree listed entries) (λ (v : Wire). v.producer == m) s
+      w = given-out circuit tree listed entries m s h
 
       from : w.wire.producer ≡ m
       from = true-eqb w.wire.producer m (sym w.passes)
 
-      by : Kind circuit tree listed w.wire → IsWrittenIn tree listed m s ⊎ IsWord circuit tree listed m s
-      by (OfSource f) = absurd (let at = ap (λ (v : Wire). v.producer) f.is in omega (arith, at, from, low))
+      by : Kind circuit tree listed entries w.wire → IsWrittenIn tree listed m s ⊎ IsWord circuit tree listed m s
+      by (OfInput f) = absurd (let at = ap (λ (v : Wire). v.producer) f.is in let high = giver-low (ports_of circuit tree listed entries) f.place in omega (arith, at, from, low, high))
       by (OfPort p) = inl (port-written m s w.wire from w.is p)
       by (OfField f) = field-written m s w.wire from w.is f
-      by (OfTray f) =
+      by (OfOutput f) =
           let of : value_at circuit.outs f.place ≡ s = sym (ap (λ (v : Wire). v.signal) f.is) ∙ w.is in
           inl (subst (λ n. IsWrittenIn tree listed n s) (ap (owner_of circuit tree listed) (sym of) ∙ sym (ap (λ (v : Wire). v.producer) f.is) ∙ from)
           (out-written s (f.place, f.known, get_or_default circuit.outs f.place s 0 f.known ∙ of)))

@@ -1,7 +1,7 @@
 -- A unit has what another unit has, with other numbers.
 -- Source: FIRRTL Specification, "Instances": each instance of a module has all that the module declares; ICCAD 2019 (duplicate
 -- instances that share one host unit).
-use Rattle.std.specs.Prelude.{◌≡◌, ◌↔◌, ◌⊎◌, ℕ, ◌<◌, ◌≤◌, ◌-◌, ◌==◌, List, Bool, Option, length, map, slice_index_or, AllPairs, Contains}
+use Rattle.std.specs.Prelude.{◌≡◌, ◌↔◌, ◌⊎◌, ℕ, ◌<◌, ◌≤◌, ◌-◌, ◌==◌, List, [], Bool, Option, length, map, slice_index_or, AllPairs, Contains}
 use Rattle.std.specs.List.{list_any}
 use Rattle.gg_flat.specs.declared.memory.Memory.{Memory}
 use Rattle.gg_flat.specs.declared.piece.Driver.TheVariants.{Held}
@@ -24,9 +24,9 @@ use Rattle.gg_flat.specs.Renaming.{numbers_by, renamed_driver, renamed_memory, r
 abbrev pub unit_first : InstanceTree → Listed → ℕ → ℕ
 unit_first tree listed m = (instance_at tree (value_at listed.units (m - first_unit))).first
 
--- the channels of a cut, before any routing
+-- the channels of a cut without bridges, before any routing
 abbrev pub cut_wires : Ordered → Listed → List Wire
-cut_wires design listed = wires_of design.circuit design.tree listed
+cut_wires design listed = wires_of design.circuit design.tree listed []
 
 -- machine m has signal s: it makes it or takes it
 abbrev pub HasSignal : Ordered → Listed → ℕ → ℕ → Type 0

@@ -7,7 +7,7 @@ use Rattle.gg_partfile.specs.declared.request.Request.{Request}
 use Rattle.gg_cut_plan.specs.Listed.{lies, listed_of, owner_of}
 use Rattle.gg_cut_plan.specs.declared.listed.Listed.{Listed}
 use Rattle.gg_cut_plan.specs.declared.wires.Wire.{Wire}
-use Rattle.gg_cut_plan.specs.Direct.{plan_routes}
+use Rattle.gg_cut_plan.specs.Direct.{plan_wires}
 use Rattle.gg_bits.specs.Limits.{most_units, most_channels}
 
 -- Units are instances below the top, and none of them is in another. Memories are the tree's, in its order.
@@ -21,7 +21,7 @@ pub record AreApart (tree : InstanceTree) (listed : Listed) : Type 0 where
 -- there are at most as many units and memories, and as many channels after the routing, as a plan may have
 pub record AreFew (circuit : FlatCircuit) (tree : InstanceTree) (request : Request) : Type 0 where
   pub units : length (listed_of tree request).units + length (listed_of tree request).memories ≤ most_units
-  pub channels : length (plan_routes circuit tree request) ≤ most_channels
+  pub channels : length (plan_wires circuit tree request) ≤ most_channels
 
 -- the ends of a channel are two different machines; `count` is the number of machines
 pub record AreEnds (count : ℕ) (w : Wire) : Type 0 where

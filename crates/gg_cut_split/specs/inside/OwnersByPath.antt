@@ -8,7 +8,7 @@ use Rattle.gg_order.specs.Design.{Ordered, IsDesign}
 use Rattle.gg_partfile.specs.declared.request.Request.{Request}
 use Rattle.gg_cut_plan.specs.Listed.{listed_of, owner_of, owner_of_instance, memory_owner}
 use Rattle.gg_cut_plan.specs.Fault.{first_fault}
-use Rattle.gg_cut_plan.specs.inside.Plan.{cut_names}
+use Rattle.gg_cut_plan.specs.Plan.{machine_names}
 use Rattle.gg_cut_split.specs.inside.Longest.{listed_paths, IsLongestHolder, IsLongestCover}
 
 -- A signal belongs to the machine of the longest listed path that holds its own, and to no other.
@@ -51,4 +51,4 @@ MachinesHaveListedNames =
     -- The design keeps to its tree, and the request lists the path at place k.
     → IsDesign design → KeepsToTree design.circuit design.tree → k < length (listed_paths design.tree request)
     -- The machine at the path's place after the hub has the path as its name.
-    → path_at (cut_names design request (listed_of design.tree request)) (k + 1) ≡ path_at (listed_paths design.tree request) k
+    → path_at (machine_names design request (listed_of design.tree request)) (k + 1) ≡ path_at (listed_paths design.tree request) k

@@ -7,6 +7,7 @@ use Rattle.gg_flat_tree.specs.Tree.{InstanceTree, memory_at}
 use Rattle.gg_cut_plan.specs.declared.wires.Wire.{Wire}
 use Rattle.gg_flat.specs.Circuit.{FlatCircuit}
 use Rattle.gg_flat.specs.inside.InOrder.{IsAlong}
+use Rattle.gg_partfile.specs.declared.request.BridgeEntry.{BridgeEntry}
 use Rattle.gg_cut_plan.specs.declared.listed.Listed.{Listed}
 use Rattle.gg_cut_plan.specs.Channels.{wire, wires_of}
 use Rattle.gg_cut_plan.specs.Plan.{wire_at, Takes, HasMemory}
@@ -24,9 +25,13 @@ pub record IsPut (test : ℕ → Bool) (number : ℕ) (old new : List (List ℕ)
 
 -- ---- channels
 
--- the channel of a top output, from the machine that a table has for it
-abbrev pub held_wires : List ℕ → ℕ → ℕ → List Wire
-held_wires holders number signal = wire signal (value_at holders signal) number ∷ []
+-- the channel of a top input, from the machine that a table has for it to the hub, machine 0
+abbrev pub given_wires : List ℕ → ℕ → ℕ → List Wire
+given_wires givers place signal = wire signal (value_at givers place) 0 ∷ []
+
+-- the channel of an out-signal of the top, from the machine that one table has for the signal to the machine that another has for its place
+abbrev pub held_wires : (holders keepers : List ℕ) → ℕ → ℕ → List Wire
+held_wires holders keepers place signal = wire signal (value_at holders signal) (value_at keepers place) ∷ []
 
 -- ---- signals
 
@@ -67,8 +72,8 @@ memories_below tree owners n m = map (λ place. (memory_at tree place).memory) (
 -- ---- what the lists have to be
 
 -- exactly the signals that machine m makes or takes, along the order
-pub record AreSignals (circuit : FlatCircuit) (tree : InstanceTree) (order : List ℕ) (listed : Listed) (m : ℕ) (globals : List ℕ) : Type 0 where
-  pub just : (s : ℕ) → Contains globals s ↔ (Makes circuit tree listed (wires_of circuit tree listed) m s ⊎ Takes (wires_of circuit tree listed) m s)
+pub record AreSignals (circuit : FlatCircuit) (tree : InstanceTree) (order : List ℕ) (listed : Listed) (entries : List BridgeEntry) (m : ℕ) (globals : List ℕ) : Type 0 where
+  pub just : (s : ℕ) → Contains globals s ↔ (Makes circuit tree listed (wires_of circuit tree listed entries) m s ⊎ Takes (wires_of circuit tree listed entries) m s)
   pub along : IsAlong order globals
 
 -- exactly the memories that belong to machine m, ascending

@@ -8,7 +8,7 @@ use Rattle.gg_flat.specs.Run.{Start, row_at}
 use Rattle.gg_flat.specs.Streams.{Flow}
 use Rattle.gg_build.specs.Build.{IsToRunFrom}
 use Rattle.gg_cut_plan.specs.declared.plan.Plan.{Plan}
-use Rattle.gg_cut_plan.specs.Seated.{first_kept_tray, plan_bridges}
+use Rattle.gg_cut_plan.specs.Ports.{first_kept_tray, plan_bridges}
 use Rattle.gg_node.specs.Machine.{Behaviour, RunsPiece, GivesColumn, KeepsLast, Machine, machine_at, kept_value}
 use Rattle.gg_net.specs.Network.{Network, wire_at}
 use Rattle.gg_cut_reference.specs.whole.Whole.{plan_circuit}

@@ -10,7 +10,7 @@ use Rattle.gg_io.specs.inside.Endings.{PrintsOn}
 use Rattle.gg_io.specs.declared.endings.Ending.{Ending}
 use Rattle.gg_cut_plan.specs.Bridges.{Models}
 use Rattle.gg_cut_plan.specs.Plan.{IsPlan}
-use Rattle.gg_cut_plan.specs.Seated.{first_bridge, first_kept_tray, plan_bridges}
+use Rattle.gg_cut_plan.specs.Ports.{first_bridge, first_kept_tray, plan_bridges}
 use Rattle.gg_cut_plan.specs.declared.plan.Plan.{Plan}
 use Rattle.gg_flat.specs.Clock.{Ratio}
 use Rattle.gg_flat.specs.Run.{Start}

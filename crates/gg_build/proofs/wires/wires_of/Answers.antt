@@ -1,7 +1,7 @@
 use Rattle.std.proofs.Common.{List, ℕ, length, sym, subst}
 use Rattle.gg_cut_plan.specs.declared.plan.Machine as planned
 use Rattle.gg_cut_plan.specs.declared.plan.Channel.{Channel}
-use Rattle.gg_cut_plan.specs.Seated.{plan_wires}
+use Rattle.gg_cut_plan.specs.Direct.{plan_wires}
 use Rattle.gg_build.specs.inside.Wires.{AreListed, ArePlaces, AreWires}
 use Rattle.gg_build.proofs.WireLemmas.{outs_of, ins_of, links-in, few-links, listed-outs, listed-ins, wires-are}
 use Rattle.gg_build.proofs.wires.wires_of.Goals as goal

@@ -8,7 +8,10 @@ use Rattle.gg_cut_plan.specs.declared.listed.Listed.{Listed}
 use Rattle.gg_cut_plan.specs.declared.wires.Wire.{Wire}
 use Rattle.gg_cut_plan.specs.Fault.{IsTold}
 use Rattle.gg_cut_plan.proofs.WholeFaultLemmas.{bridges-first, others-told}
+use Rattle.gg_partfile.specs.declared.request.BridgeEntry.{BridgeEntry}
 use Rattle.gg_cut_split.specs.inside.Apart.{AreApart}
+use Rattle.gg_cut_split.specs.inside.Ends.{AreEndsOf}
+use Rattle.gg_cut_split.specs.inside.IsShare.{AreShares}
 use Rattle.gg_cut.proofs.FaultlessLemmas.{entries-told}
 use Rattle.gg_cut.proofs.PlanLemmas.{bridges-at}
 use Rattle.gg_cut.proofs.judged.draft_of.Goals as goal
@@ -71,8 +74,8 @@ returns-clause-draft c =
       bridges = sym (bridges-at design c.args.models.now c.args.request.now c.piece.result.now c.tree.result.now c.piece.ensures.circuit c.tree.ensures.tree) ∙ c.in_ok-judge_bridges.ensures;
       listed = listed.listed;
       apart = subst (λ (l : Listed). AreApart design.tree l) (sym listed.listed) (c.listed_apart.ensures.apart design c.args.request.now c.requires.keeps listed.told);
-      few = c.in_ok-split.ensures.few;
-      shares = c.in_ok-split.ensures.shares;
+      ends = subst (λ (l : List BridgeEntry). AreEndsOf design.circuit design.tree c.in_ok-listed.listed l c.in_ok-ends.ends) c.as_slice-entries.ensures (c.in_ok-ends.ensures {u = tt});
+      shares = subst (λ (l : List BridgeEntry). AreShares design c.in_ok-listed.listed l c.in_ok-split.split.shares) c.as_slice-entries.ensures c.in_ok-split.ensures.shares;
       wires = c.in_ok-routed.ensures.wires;
       gone = c.in_ok-routed.ensures.gone;
       sound = c.in_ok-routed.ensures.sound;

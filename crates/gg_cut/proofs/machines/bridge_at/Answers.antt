@@ -5,27 +5,31 @@ use Rattle.gg_flat.specs.Circuit.{FlatCircuit}
 use Rattle.gg_partfile.specs.declared.request.BridgeEntry.{BridgeEntry}
 use Rattle.gg_cut_plan.specs.Models.{model_names}
 use Rattle.gg_cut_plan.specs.Plan.{IsBridgeBody, channels_from, channels_to}
-use Rattle.gg_cut_plan.specs.Seated.{first_bridge}
+use Rattle.gg_cut_plan.specs.Ports.{first_bridge}
 use Rattle.gg_cut_plan.specs.declared.wires.Wire.{Wire}
+use Rattle.gg_cut_parts.specs.declared.draft.Draft.{Draft}
 use Rattle.gg_cut_parts.proofs.MachineLemmas.{from-below, to-below}
-use Rattle.gg_cut_machines.specs.inside.Drafted.{draft_bridges, draft_wires}
+use Rattle.gg_cut_machines.specs.inside.Drafted.{draft_bridges, draft_end, draft_wires}
 use Rattle.gg_cut_machines.proofs.PortLemmas.{part-few}
-use Rattle.gg_cut_machines.proofs.WireLemmas.{seated-known}
 use Rattle.gg_cut.proofs.BodyLemmas.{bridge-by}
 use Rattle.gg_cut.proofs.machines.bridge_at.Goals as goal
 
+-- a bridge's number is below the number of all machines
+at-end : (draft : Draft) (place m : ℕ) → place < length draft.request.now.bridges → m ≡ first_bridge (draft_bridges draft) + place → m < draft_end draft
+at-end draft place m lt is = omega (arith, lt, is)
+
 pub taken-ins-requires : goal.taken-ins-requires
-taken-ins-requires c = omega (arith, c.requires.known, c.requires.making.places.into.many)
+taken-ins-requires c = let known = at-end c.args.making.now.draft.now c.args.place c.args.number c.requires.place c.requires.number in omega (arith, known, c.requires.making.places.into.many)
 
 pub given-outs-requires : goal.given-outs-requires
-given-outs-requires c = omega (arith, c.requires.known, c.requires.making.places.from.many)
+given-outs-requires c = let known = at-end c.args.making.now.draft.now c.args.place c.args.number c.requires.place c.requires.number in omega (arith, known, c.requires.making.places.from.many)
 
 pub bridge_body-requires-clause-known : goal.bridge_body-requires-clause-known
 bridge_body-requires-clause-known c =
     let draft = c.args.making.now.draft.now in
     let design = draft.design.now in
-    let place = c.args.number - c.args.making.now.seats.now.starts.bridge in
-    let inside : place < length draft.request.now.bridges = omega (arith, c.requires.bridge, c.requires.known, c.requires.making.seats.starts.bridge) in
+    let place = c.args.place in
+    let inside = c.requires.place in
     let fit = c.bridges_fit.ensures design.circuit (length design.tree.stops) draft.models.now draft.request.now.bridges c.requires.making.draft.bridges in
     subst (λ (entry : BridgeEntry). Contains (model_names draft.models.now) entry.name) (sym (c.index-entries-place.is ∙ ap (λ (l : List BridgeEntry). get_or l place c.index-entries-place.result) c.as_slice-entries.ensures))
     (fit.each place c.index-entries-place.result inside).known
@@ -33,8 +37,8 @@ bridge_body-requires-clause-known c =
 pub bridge_body-requires-clause-sees : goal.bridge_body-requires-clause-sees
 bridge_body-requires-clause-sees c =
     let draft = c.args.making.now.draft.now in
-    let place = c.args.number - c.args.making.now.seats.now.starts.bridge in
-    let inside : place < length draft.request.now.bridges = omega (arith, c.requires.bridge, c.requires.known, c.requires.making.seats.starts.bridge) in
+    let place = c.args.place in
+    let inside = c.requires.place in
     let most = part-few (λ (entry : BridgeEntry). entry.sees) draft.request.now.bridges place c.index-entries-place.result inside in
     let same = ap (λ (entry : BridgeEntry). length entry.sees) (c.index-entries-place.is ∙ ap (λ (l : List BridgeEntry). get_or l place c.index-entries-place.result) c.as_slice-entries.ensures) in
     omega (arith, most, same, c.requires.making.draft.small.seen)
@@ -42,8 +46,8 @@ bridge_body-requires-clause-sees c =
 pub bridge_body-requires-clause-drives : goal.bridge_body-requires-clause-drives
 bridge_body-requires-clause-drives c =
     let draft = c.args.making.now.draft.now in
-    let place = c.args.number - c.args.making.now.seats.now.starts.bridge in
-    let inside : place < length draft.request.now.bridges = omega (arith, c.requires.bridge, c.requires.known, c.requires.making.seats.starts.bridge) in
+    let place = c.args.place in
+    let inside = c.requires.place in
     let most = part-few (λ (entry : BridgeEntry). entry.drives) draft.request.now.bridges place c.index-entries-place.result inside in
     let same = ap (λ (entry : BridgeEntry). length entry.drives) (c.index-entries-place.is ∙ ap (λ (l : List BridgeEntry). get_or l place c.index-entries-place.result) c.as_slice-entries.ensures) in
     omega (arith, most, same, c.requires.making.draft.small.driven)
@@ -52,18 +56,18 @@ pub bridge_body-requires-clause-wires : goal.bridge_body-requires-clause-wires
 bridge_body-requires-clause-wires c =
     let draft = c.args.making.now.draft.now in
     let is = c.requires.making in
-    subst (λ (k : FlatCircuit). All (λ (w : Wire). w.signal < length k.signals) c.deref-wires.result.now) (sym c.piece-piece.ensures.circuit)
-    (subst (λ (l : List Wire). All (λ w. w.signal < length draft.design.now.circuit.signals) l) (sym (c.deref-wires.ensures.value ∙ is.seats.wires)) (seated-known draft.design.now draft.request.now draft.listed is.draft.listed is.draft.sound))
+    subst (λ (k : FlatCircuit). All (λ (w : Wire). w.signal < length k.signals) c.wires-wires.result.now) (sym c.piece-piece.ensures.circuit)
+    (subst (λ (l : List Wire). All (λ w. w.signal < length draft.design.now.circuit.signals) l) (sym (c.wires-wires.ensures ∙ is.draft.wires)) is.draft.sound.known)
 
 pub bridge_body-requires-clause-ins : goal.bridge_body-requires-clause-ins
 bridge_body-requires-clause-ins c =
     let is = c.requires.making in
-    to-below c.deref-wires.result.now c.args.number c.taken-ins.result.now (c.taken-ins.ensures ∙ is.places.into.each c.args.number c.requires.known ∙ ap (λ (l : List Wire). channels_to l c.args.number) (sym (c.deref-wires.ensures.value ∙ is.seats.wires)))
+    to-below c.wires-wires.result.now c.args.number c.taken-ins.result.now (c.taken-ins.ensures ∙ is.places.into.each c.args.number (at-end c.args.making.now.draft.now c.args.place c.args.number c.requires.place c.requires.number) ∙ ap (λ (l : List Wire). channels_to l c.args.number) (sym (c.wires-wires.ensures ∙ is.draft.wires)))
 
 pub bridge_body-requires-clause-outs : goal.bridge_body-requires-clause-outs
 bridge_body-requires-clause-outs c =
     let is = c.requires.making in
-    from-below c.deref-wires.result.now c.args.number c.given-outs.result.now (c.given-outs.ensures ∙ is.places.from.each c.args.number c.requires.known ∙ ap (λ (l : List Wire). channels_from l c.args.number) (sym (c.deref-wires.ensures.value ∙ is.seats.wires)))
+    from-below c.wires-wires.result.now c.args.number c.given-outs.result.now (c.given-outs.ensures ∙ is.places.from.each c.args.number (at-end c.args.making.now.draft.now c.args.place c.args.number c.requires.place c.requires.number) ∙ ap (λ (l : List Wire). channels_from l c.args.number) (sym (c.wires-wires.ensures ∙ is.draft.wires)))
 
 pub bridge_body-requires-clause-count : goal.bridge_body-requires-clause-count
 bridge_body-requires-clause-count c = c.requires.count ∙ sym (ap (λ (k : FlatCircuit). length k.signals) c.piece-piece.ensures.circuit)
@@ -76,15 +80,16 @@ returns-clause-body c =
     let request = draft.request.now in
     let is = c.requires.making in
     let m = c.args.number in
-    let place = m - making.seats.now.starts.bridge in
-    let inside : place < length request.bridges = omega (arith, c.requires.bridge, c.requires.known, is.seats.starts.bridge) in
-    let number : place ≡ m - first_bridge (draft_bridges draft) = ap (λ k. m - k) is.seats.starts.bridge in
+    let place = c.args.place in
+    let inside = c.requires.place in
+    let number : place ≡ m - first_bridge (draft_bridges draft) = omega (arith, c.requires.number) in
+    let known = at-end draft place m inside c.requires.number in
     let paths = ap (λ (k : FlatCircuit). k.paths) c.piece-piece.ensures.circuit in
     let read = c.index-entries-place.is ∙ ap (λ (l : List BridgeEntry). get_or l place c.index-entries-place.result) c.as_slice-entries.ensures ∙ get_or_default request.bridges place c.index-entries-place.result (record { name = []; sees = []; drives = [] }) inside in (
-      c.requires.bridge,
+      omega (arith, c.requires.number),
       subst (λ k. IsBridgeBody design request draft.models.now (draft_wires draft) m k c.in_ok-body.body) number
-          (bridge-by design request draft.models.now m place c.piece-piece.result.now.paths c.index-entries-place.result c.deref-wires.result.now c.taken-ins.result.now c.given-outs.result.now c.in_ok-body.body inside paths read
-          (c.deref-wires.ensures.value ∙ is.seats.wires) (c.taken-ins.ensures ∙ is.places.into.each m c.requires.known) (c.given-outs.ensures ∙ is.places.from.each m c.requires.known) c.in_ok-body.ensures.body),
+          (bridge-by design request draft.models.now m place c.piece-piece.result.now.paths c.index-entries-place.result c.wires-wires.result.now c.taken-ins.result.now c.given-outs.result.now c.in_ok-body.body inside paths read
+          (c.wires-wires.ensures ∙ is.draft.wires) (c.taken-ins.ensures ∙ is.places.into.each m known) (c.given-outs.ensures ∙ is.places.from.each m known) c.in_ok-body.ensures.body),
     )
 
 pub returns-clause-count : goal.returns-clause-count

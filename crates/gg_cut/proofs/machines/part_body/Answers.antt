@@ -1,7 +1,6 @@
 use Rattle.std.proofs.Common.{◌<◌, get_or, sym, ◌∙◌, ap, subst, arith}
 use Rattle.gg_cut_plan.specs.declared.listed.Listed.{Listed}
 use Rattle.gg_cut_plan.specs.Hosts.{leader}
-use Rattle.gg_cut_plan.specs.inside.Machines.{machine_count}
 use Rattle.gg_cut_split.specs.inside.Again.{IsUnitAgain}
 use Rattle.gg_cut_parts.specs.inside.Draft.{draft_hub}
 use Rattle.gg_cut.proofs.AlikeLemmas.{own-made}
@@ -18,13 +17,10 @@ moved_body-requires-clause-again c =
     let request = draft.request.now in
     let is = c.requires.machine in
     let first = c.args.first in
-    let below = is.known in
     let less : first < machine.number = c.if-first-machine.true in
     subst (λ (l : Listed). IsUnitAgain design l first machine.number) (sym is.draft.listed)
     (c.units_stand_again.ensures design request first machine.number
     (record { formed = c.piece.ensures.formed; ordered = c.order.ensures.ordered }) is.draft.keeps is.draft.faultless
-    (subst (λ (l : Listed). first < machine_count design.circuit l) is.draft.listed (omega (arith, less, below)))
-    (subst (λ (l : Listed). machine.number < machine_count design.circuit l) is.draft.listed (omega (arith, below)))
     (λ same. absurd (omega (arith, less, same)))
     (ap (leader request.units request.share) c.requires.first ∙ leaders-first design request is.draft.faultless machine.number))
 

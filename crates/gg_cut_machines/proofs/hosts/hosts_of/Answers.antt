@@ -5,7 +5,7 @@ use Rattle.gg_cut_parts.proofs.DraftLemmas.{draft-units}
 use Rattle.gg_cut_machines.proofs.hosts.hosts_of.Goals as goal
 
 pub leaders_of-requires-clause-numbering : goal.leaders_of-requires-clause-numbering
-leaders_of-requires-clause-numbering c = ap (λ (n : Counts). n.units) c.numbering.ensures ∙ draft-units c.args.draft.now c.requires.draft ∙ sym (ap length c.as_slice-units.ensures)
+leaders_of-requires-clause-numbering c = ap (λ (n : Counts). n.units) (c.numbering.ensures ∙ c.requires.draft.ends.numbers) ∙ draft-units c.args.draft.now c.requires.draft ∙ sym (ap length c.as_slice-units.ensures)
 
 pub leaders_of-requires-clause-units : goal.leaders_of-requires-clause-units
 leaders_of-requires-clause-units c = omega (arith, c.requires.units, ap length c.as_slice-units.ensures)

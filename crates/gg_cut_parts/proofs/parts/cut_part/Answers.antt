@@ -45,7 +45,7 @@ part_of-requires-clause-timed c =
     c.clocks.ensures ∙ is.domains.clocks (clock_home listed machine.number) (home-known design.tree listed is.draft.keeps.fitting.top.there is.draft.apart.known machine.number) in
     let taken : c.deref.result.now ≡ signals_of (routes hub) machine.ins.now =
     c.deref.ensures.value ∙ c.in_ok-ins.ensures {u = tt} ∙ ap (λ (w : List Wire). signals_of w machine.ins.now) (c.wires.ensures ∙ is.draft.wires) in
-    let unit : first_unit ≤ machine.number → machine.number < first_memory listed → IsUnitRouted design listed hub machine.number = λ first high. draft-routed draft is.draft (record { formed = c.piece.ensures.formed; ordered = c.order.ensures.ordered }) machine.number (λ z. absurd (omega (arith, first, z))) in
+    let unit : first_unit ≤ machine.number → machine.number < first_memory listed → IsUnitRouted design listed hub machine.number = λ first high. draft-routed draft is.draft (record { formed = c.piece.ensures.formed; ordered = c.order.ensures.ordered }) machine.number (λ z. absurd (omega (arith, first, z))) (omega (arith, high)) in
     subst (λ (w : FlatCircuit). AreTimed w machine.globals.now c.deref.result.now machine.memories.now c.clocks.result.now k.registers k.ports) (sym c.piece.ensures.circuit)
     (subst (λ (l : List ℕ). AreTimed design.circuit machine.globals.now l machine.memories.now c.clocks.result.now k.registers k.ports) (sym taken)
     (subst (λ (l : List (Option ℕ)). AreTimed design.circuit machine.globals.now given machine.memories.now l k.registers k.ports) (sym home)

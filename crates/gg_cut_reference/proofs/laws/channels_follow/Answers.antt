@@ -5,6 +5,6 @@ use Rattle.gg_cut_reference.proofs.FollowLemmas.{channel-column}
 use Rattle.gg_cut_reference.proofs.laws.channels_follow.Goals as goal
 
 pub returns : goal.returns
-returns c = λ design listed piped driven direct start columns end rows channel is keeps apart typed run lt.
-    channel-column (hub_of design.circuit design.tree listed piped driven direct)
-    (cut-base design listed piped driven direct is keeps apart (c.channels_once.ensures.once design listed is keeps apart) (c.channels_once.ensures.ends design listed is keeps apart)) is.formed (holder_of (hub_of design.circuit design.tree listed piped driven direct)) (keeper_of design.tree listed) start typed columns end rows run channel lt
+returns c = λ design listed piped entries direct start columns end rows channel is keeps apart typed run lt.
+    channel-column (hub_of design.circuit design.tree listed piped entries direct)
+    (cut-base design listed piped entries direct is keeps apart (c.channels_once.ensures.once design listed entries is keeps apart) (c.channels_once.ensures.ends design listed entries is keeps apart)) is.formed (holder_of (hub_of design.circuit design.tree listed piped entries direct)) (keeper_of design.tree listed) start typed columns end rows run channel lt

@@ -3,7 +3,7 @@ use Rattle.std.proofs.lemmas.Result.{IfOk-weaker}
 use Rattle.gg_cut_plan.proofs.KnownLemmas.{parents-before}
 use Rattle.gg_flat_tree.specs.inside.Clocked.{AreParentsBefore}
 use Rattle.gg_build.specs.Build.{IsOpeningFrom, run_token}
-use Rattle.gg_cut_plan.specs.Seated.{first_kept_tray, plan_bridges}
+use Rattle.gg_cut_plan.specs.Ports.{first_kept_tray, plan_bridges}
 use Rattle.gg_flat.specs.Run.{Start}
 use Rattle.gg_order.specs.Design.{Ordered}
 use Rattle.gg_cut_reference.specs.Follows.{plan_token}

@@ -1,8 +1,5 @@
 use Rattle.std.proofs.Common.{ℕ, ◌+◌, ◌^◌, ◌<◌, List, length, arith}
-use Rattle.std.proofs.lemmas.List.{length-map}
 use Rattle.gg_cut_split.proofs.ClosedLemmas.FaultlessLemmas.{faultless-few}
-use Rattle.gg_cut_plan.specs.Direct.{plan_routes}
-use Rattle.gg_cut_plan.specs.Seated.{plan_bridges, seated_wire}
 use Rattle.gg_cut_pipes.specs.inside.CanPipe.{CanPipe}
 use Rattle.golden_commands.specs.Case.{IsCase}
 use Rattle.golden_commands.specs.Partition.{Known}
@@ -19,8 +16,7 @@ few-both {circuit = circuit} {case = case} is =
     let signals = few-signals circuit design.circuit is.means.means in
     let channels = (faultless-few design request (case-faultless is)).channels in
     let total = is.planned.channel_total in
-    let long = length-map (plan_routes design.circuit design.tree request) (seated_wire (plan_bridges design.circuit design.tree request)) in
-    omega (arith, signals, channels, total, long)
+    omega (arith, signals, channels, total)
 
 abbrev can-pipe : {known : Known} {circuit partition : List ℕ} {capacity : ℕ} {case : Case} → IsCase known circuit partition capacity case → CanPipe case.design case.cut.plan
 can-pipe {known = known} {capacity = capacity} {case = case} is =

@@ -1,4 +1,4 @@
-use Rattle.gg_cut_reference.proofs.FittingLemmas.BridgeLemmas.{are-bridges}
+use Rattle.gg_cut_plan.proofs.PortLemmas.{are-bridges}
 use Rattle.gg_cut_reference.proofs.fitting.laws.bridges_known.Goals as goal
 
 pub returns : goal.returns

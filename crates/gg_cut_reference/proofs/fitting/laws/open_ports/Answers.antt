@@ -1,5 +1,5 @@
 use Rattle.std.proofs.Common.{◌+◌, ◌-◌, length, arith}
-use Rattle.gg_cut_reference.proofs.FittingLemmas.CountLemmas.{before-found}
+use Rattle.gg_cut_plan.proofs.CountLemmas.{before-found}
 use Rattle.gg_cut_reference.proofs.FittingLemmas.OpenLemmas.{ins-count, outs-count, undriven-is, unseen-is, in-place, out-place, outs-place, stop-unseen, stop-before}
 use Rattle.gg_cut_reference.proofs.fitting.laws.open_ports.Goals as goal
 

@@ -1,8 +1,0 @@
-use Rattle.std.proofs.Common.{◌≡◌, ◌++◌, take}
-use Rattle.gg_cut_plan.specs.Machines.{tray_after}
-use Rattle.gg_cut_plan.specs.Channels.{numbered}
-use Rattle.gg_cut_split.specs.inside.Spread.{held_wires}
-use Rattle.gg_cut_split.proofs.channels.push_trays.Given as goal
-
-abbrev pub invariant-loop-place : goal.invariant-loop-place
-invariant-loop-place l = l.wires.items ≡ l.initial.wires.items ++ numbered (held_wires l.holders) (tray_after l.numbering.units l.numbering.memories l.numbering.ins) (take l.place l.outs)
