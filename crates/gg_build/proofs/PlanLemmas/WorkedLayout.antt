@@ -316,7 +316,7 @@ same_cycle =
 one-port : map (machine_ports same_cycle tree listed) (0 ∷ 1 ∷ 2 ∷ 3 ∷ []) ≡ 0 ∷ 1 ∷ 0 ∷ 0 ∷ []
 one-port = refl
 
-no-turn : map (machine_turns same_cycle tree listed (wires_of same_cycle tree listed)) (0 ∷ 1 ∷ 2 ∷ 3 ∷ []) ≡ [] ∷ [] ∷ [] ∷ [] ∷ []
+no-turn : map (machine_turns same_cycle tree listed (wires_of same_cycle tree listed [])) (0 ∷ 1 ∷ 2 ∷ 3 ∷ []) ≡ [] ∷ [] ∷ [] ∷ [] ∷ []
 no-turn = refl
 
 -- ---- turns of two readers and two writers
@@ -338,7 +338,7 @@ with_latency latency =
     }
 
 abbrev turns_with : Latency → List Turn
-turns_with latency = memory_turns (with_latency latency) (wires_of (with_latency latency) tree listed) 0
+turns_with latency = memory_turns (with_latency latency) (wires_of (with_latency latency) tree listed []) 0
 
 abbrev first_reader : Turn
 first_reader = turn 0 (2 ∷ 3 ∷ [])

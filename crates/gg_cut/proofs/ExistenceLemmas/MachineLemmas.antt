@@ -42,7 +42,6 @@ use Rattle.gg_cut.proofs.AlikeLemmas.{machines-made, machines-more, machines-non
 use Rattle.gg_cut.proofs.BodyLemmas.{bridge-made, source-made, tray-made}
 use Rattle.gg_cut_machines.proofs.HostLemmas.{leader-below}
 use Rattle.gg_cut_machines.proofs.LeaderLemmas.{leaders-first}
-use Rattle.gg_cut_plan.proofs.CountLemmas.{before-few}
 use Rattle.gg_cut_parts.proofs.RoutedLemmas.{plan-unit-routed}
 use Rattle.gg_cut.proofs.ExistenceLemmas.BodyLemmas.{HasCutPart, like-part, part-for}
 use Rattle.gg_cut.proofs.ExistenceLemmas.ClockLemmas.{unit-clocks}
@@ -77,10 +76,8 @@ module _ (design : Ordered) (request : Request) (models : Models) (is : IsDesign
   few : IsSmall request → machine_end bridges < 2 ^ 32
   few small =
       let cut = few-machines design request routed (faultless-few design request none) in
-      let sources = before-few (undriven bridges) bridges.ins in
-      let trays = before-few (unseen bridges) bridges.outs in
       let asked = small.bridges in
-      omega (arith, cut, sources, trays, asked)
+      omega (arith, cut, asked)
 
   share : (m : ℕ) → HasShare design listed hub m
   share m = plan-share design listed (is_piped design.circuit request) request.bridges request.direct is keeps apart routed m
