@@ -1,6 +1,5 @@
 -- What the machine with a number is in a draft.
-use Rattle.std.proofs.Common.{◌≡◌, ℕ, ◌+◌, ◌-◌, ◌<◌, ◌≤◌, ◌^◌, length, ◌∙◌, ap, subst, arith}
-use Rattle.std.specs.Prelude.{⊤}
+use Rattle.std.proofs.Common.{◌≡◌, ℕ, ◌+◌, ◌-◌, ◌<◌, ◌≤◌, ◌^◌, length, ◌∙◌, ap, subst, inl, inr, ◌⊎◌, arith}
 use Rattle.gg_cut_plan.specs.declared.listed.Listed.{Listed}
 use Rattle.gg_cut_plan.specs.declared.numbering.Role.{Role}
 use Rattle.gg_cut_plan.specs.declared.numbering.Role.TheVariants.{Hub, Unit, Memory, Source, Tray, Bridge}
@@ -11,15 +10,6 @@ use Rattle.gg_cut_plan.specs.inside.Ports.{counts_of}
 use Rattle.gg_cut_parts.specs.declared.draft.Draft.{Draft}
 use Rattle.gg_cut_parts.specs.inside.Draft.{IsDraft}
 use Rattle.gg_cut_machines.specs.inside.Drafted.{draft_bridges, draft_end}
-
--- the hub, a unit or a listed memory
-abbrev pub HasPart : Role → Type 0
-HasPart Hub = ⊤
-HasPart (Unit place) = ⊤
-HasPart (Memory place) = ⊤
-HasPart (Source place) = ⊥
-HasPart (Tray place) = ⊥
-HasPart (Bridge place) = ⊥
 
 module _ (draft : Draft) (is : IsDraft draft) where
   counts : draft.ends.numbering ≡ counts_of draft.listed (draft_bridges draft)
@@ -38,13 +28,11 @@ module _ (draft : Draft) (is : IsDraft draft) where
   role : (numbering : Counts) → numbering ≡ draft.ends.numbering → (m : ℕ) (r : Role) → IsRole numbering m r → IsRole (counts_of draft.listed (draft_bridges draft)) m r
   role numbering same m r at = subst (λ (n : Counts). IsRole n m r) (same ∙ counts) at
 
-  pub low-role : (numbering : Counts) → numbering ≡ draft.ends.numbering → (m : ℕ) (r : Role) → IsRole numbering m r → HasPart r → m < first_source draft.listed
-  low-role numbering same m Hub at part = let there = role numbering same m Hub at in omega (arith, there)
-  low-role numbering same m (Unit place) at part = let there = role numbering same m (Unit place) at in omega (arith, there.0, there.1)
-  low-role numbering same m (Memory place) at part = let there = role numbering same m (Memory place) at in omega (arith, there.0, there.1)
-  low-role numbering same m (Source place) at part = absurd part
-  low-role numbering same m (Tray place) at part = absurd part
-  low-role numbering same m (Bridge place) at part = absurd part
+  -- the hub, a unit or a listed memory comes before the sources
+  pub low-role : (numbering : Counts) → numbering ≡ draft.ends.numbering → (m : ℕ) (r : Role) → IsRole numbering m r → (r ≡ Hub) ⊎ (((place : ℕ) × (r ≡ Unit place)) ⊎ ((place : ℕ) × (r ≡ Memory place))) → m < first_source draft.listed
+  low-role numbering same m r at (inl hub) = let there = role numbering same m Hub (subst (IsRole numbering m) hub at) in omega (arith, there)
+  low-role numbering same m r at (inr (inl unit)) = let there = role numbering same m (Unit unit.0) (subst (IsRole numbering m) unit.1 at) in omega (arith, there.0, there.1)
+  low-role numbering same m r at (inr (inr memory)) = let there = role numbering same m (Memory memory.0) (subst (IsRole numbering m) memory.1 at) in omega (arith, there.0, there.1)
 
   pub source-role : (numbering : Counts) → numbering ≡ draft.ends.numbering → (m place : ℕ) → IsRole numbering m (Source place) → ((draft_bridges draft).first ≤ m) × (m < first_kept_tray (draft_bridges draft)) × (place ≡ m - (draft_bridges draft).first)
   source-role numbering same m place at =

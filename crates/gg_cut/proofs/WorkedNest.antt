@@ -257,7 +257,7 @@ abbrev lower_listed : Listed
 lower_listed = listed_of tree lower
 
 abbrev lower_wires : List Wire
-lower_wires = wires_of circuit tree lower_listed
+lower_wires = wires_of circuit tree lower_listed []
 
 abbrev lower_routed : Hub
 lower_routed = plan_hub circuit tree lower

@@ -3,6 +3,7 @@ use Rattle.std.proofs.Common.{◌≡◌, ℕ, zero, suc, ◌+◌, ◌-◌, ◌<�
 use Rattle.std.specs.Prelude.{cond, filter, is_none}
 use Rattle.std.specs.List.{range_with_len}
 use Rattle.std.proofs.lemmas.List.{append-nil, get_or-take, get_or_append_left, length-append, length-drop, length-take-le, take-append-drop}
+use Rattle.std.proofs.lemmas.List.Sums.{count_by-le-length, length-filter}
 use Rattle.gg_flat.specs.Circuit.{FlatCircuit}
 use Rattle.gg_flat.specs.Line.{value_at}
 use Rattle.gg_flat_tree.specs.Tree.{path_at}
@@ -22,19 +23,19 @@ kept-all (y ∷ ys) = ap (λ l. y ∷ l) (kept-all ys)
 
 -- they are the items of a list that pass another, if the tests agree, and the items behind, if these all pass
 places-kept : (keeps test : ℕ → Bool) (all xs ys : List ℕ) (n : ℕ) → ((k : ℕ) → k < length (xs ++ ys) → value_at all (n + k) ≡ value_at (xs ++ ys) k)
-    → ((k : ℕ) → k < length xs → keeps (n + k) ≡ test (value_at xs k)) → ((k : ℕ) → k < length ys → keeps (n + (length xs + k)) ≡ true)
+    → ((k : ℕ) → k < length xs → keeps (n + k) ≡ test (value_at xs k)) → ((k : ℕ) → length xs ≤ k → k < length (xs ++ ys) → keeps (n + k) ≡ true)
     → map (value_at all) (filter keeps (range_with_len n (length (xs ++ ys)))) ≡ filter test xs ++ ys
 places-kept keeps test all [] [] n read same behind = refl
 places-kept keeps test all [] (y ∷ ys) n read same behind =
     ap (λ b. map (value_at all) (cond b (n ∷ filter keeps (range_with_len (n + 1) (length ys))) (filter keeps (range_with_len (n + 1) (length ys))))) here
     ∙ ap₂ (λ v l. v ∷ l) item
-    (places-kept keeps test all [] ys (n + 1) (λ k lt. ap (value_at all) (next k) ∙ read (suc k) (omega (arith, lt))) (λ k lt. absurd (omega (arith, lt))) (λ k lt. ap keeps (next k) ∙ behind (suc k) (omega (arith, lt))))
+    (places-kept keeps test all [] ys (n + 1) (λ k lt. ap (value_at all) (next k) ∙ read (suc k) (omega (arith, lt))) (λ k lt. absurd (omega (arith, lt))) (λ k le lt. ap keeps (next k) ∙ behind (suc k) (omega arith) (omega (arith, lt))))
   where
     first : n + 0 ≡ n
     first = omega arith
 
     here : keeps n ≡ true
-    here = subst (λ k. keeps k ≡ true) first (behind 0 (omega arith))
+    here = subst (λ k. keeps k ≡ true) first (behind 0 (omega arith) (omega arith))
 
     item : value_at all n ≡ y
     item = subst (λ k. value_at all k ≡ y) first (read 0 (omega arith))
@@ -44,7 +45,7 @@ places-kept keeps test all [] (y ∷ ys) n read same behind =
 places-kept keeps test all (x ∷ xs) ys n read same behind =
     ap (λ b. map (value_at all) (cond b (n ∷ filter keeps (range_with_len (n + 1) (length (xs ++ ys)))) (filter keeps (range_with_len (n + 1) (length (xs ++ ys)))))) here
     ∙ by (test x)
-    (places-kept keeps test all xs ys (n + 1) (λ k lt. ap (value_at all) (next k) ∙ read (suc k) (omega (arith, lt))) (λ k lt. ap keeps (next k) ∙ same (suc k) (omega (arith, lt))) (λ k lt. ap keeps (next (length xs + k)) ∙ behind k lt))
+    (places-kept keeps test all xs ys (n + 1) (λ k lt. ap (value_at all) (next k) ∙ read (suc k) (omega (arith, lt))) (λ k lt. ap keeps (next k) ∙ same (suc k) (omega (arith, lt))) (λ k le lt. ap keeps (next k) ∙ behind (suc k) (omega (arith, le)) (omega (arith, lt))))
   where
     first : n + 0 ≡ n
     first = omega arith
@@ -85,8 +86,16 @@ module _ (design : Ordered) (request : Request) where
       let ins = design.circuit.ins in
       ap (λ (l : List ℕ). map (value_at ins) (filter (undriven b) (range_with_len 0 (length l)))) (sym (append-nil ins))
       ∙ places-kept (undriven b) in_test ins ins [] 0 (λ k lt. ap (value_at ins) (zero-more k) ∙ ap (λ (l : List ℕ). value_at l k) (sym (append-nil ins)))
-      (λ k lt. ap (undriven b) (zero-more k) ∙ undriven-is design.circuit design.tree request k) (λ k lt. absurd (omega (arith, lt)))
+      (λ k lt. ap (undriven b) (zero-more k) ∙ undriven-is design.circuit design.tree request k) (λ k le lt. absurd (omega (arith, le, lt, ap (λ (l : List ℕ). length l) (append-nil ins))))
       ∙ append-nil (filter in_test ins)
+
+  -- no more outputs are open than there are
+  pub open-few : length (open_outs design.circuit (output_count design) request) ≤ output_count design
+  open-few =
+      let front = take outputs design.circuit.outs in
+      let chosen = length-filter out_test front in
+      let few = count_by-le-length out_test front in
+      omega (arith, chosen, few, length-take-le outputs design.circuit.outs (omega arith))
 
   -- the outputs that no bridge sees, and the stops behind them
   pub outs-open : at_places (unseen (plan_bridges design.circuit design.tree request)) design.circuit.outs ≡ open_outs design.circuit (output_count design) request ++ drop (output_count design) design.circuit.outs
@@ -101,7 +110,7 @@ module _ (design : Ordered) (request : Request) where
       (λ k lt.
       let low : k < outputs = omega (arith, lt, many) in
       ap (unseen b) (zero-more k) ∙ unseen-is design.circuit design.tree request k low ∙ ap out_test (sym (get_or-take outputs outs k 0 low)))
-      (λ k lt. stop-unseen design.circuit design.tree request (0 + (length front + k)) (omega (arith, many)))
+      (λ k le lt. stop-unseen design.circuit design.tree request (0 + k) (omega (arith, le, many)))
 
 -- ---- all names
 

@@ -22,7 +22,7 @@ use Rattle.gg_cut_plan.specs.Fault.{IsSmall, first_fault}
 use Rattle.gg_cut_plan.specs.Held.{AreHeldOnce}
 use Rattle.gg_cut_plan.specs.Hosts.{host_of, leader}
 use Rattle.gg_cut_plan.specs.Listed.{listed_of}
-use Rattle.gg_cut_plan.specs.Machines.{first_memory}
+use Rattle.gg_cut_plan.specs.Machines.{first_memory, first_source}
 use Rattle.gg_cut_plan.specs.Plan.{IsBody, channels_from, channels_to, entry_at, machine_names, port_place, wire_at}
 use Rattle.gg_cut_plan.specs.Ports.{Bridges, first_bridge, first_kept_tray, machine_end, plan_bridges, undriven, unseen}
 use Rattle.gg_cut_split.specs.inside.Apart.{AreApart}
@@ -82,8 +82,8 @@ module _ (design : Ordered) (request : Request) (models : Models) (is : IsDesign
   share : (m : ℕ) → HasShare design listed hub m
   share m = plan-share design listed (is_piped design.circuit request) request.bridges request.direct is keeps apart routed m
 
-  unit-routed : (m : ℕ) → m ≢ 0 → IsUnitRouted design listed hub m
-  unit-routed m some = plan-unit-routed design request listed refl is keeps apart m some
+  unit-routed : (m : ℕ) → m ≢ 0 → m < first_source listed → IsUnitRouted design listed hub m
+  unit-routed m some low = plan-unit-routed design request listed refl is keeps apart m some low
 
   -- units with one first machine have the same
   again : (m n : ℕ) → m ≢ n → leader request.units request.share m ≡ leader request.units request.share n → IsUnitAgain design listed m n
@@ -105,7 +105,7 @@ module _ (design : Ordered) (request : Request) (models : Models) (is : IsDesign
 
     -- what the hub, a unit or a memory does that is the first of its host
     own-made : (old : List Machine) (n : ℕ) → n < bridges.first → leader request.units request.share n ≡ n → HasMadeBody old n
-    own-made old n low first = by (cases_lt n (first_memory listed)) (part-for design listed hub is keeps apart clocking are n (share n) low (unit-routed n))
+    own-made old n low first = by (cases_lt n (first_memory listed)) (part-for design listed hub is keeps apart clocking are n (share n) low (λ other. unit-routed n other low))
       where
         by : (n < first_memory listed) ⊎ (first_memory listed ≤ n) → HasCutPart design listed hub clocking n → HasMadeBody old n
         by (inl lt) p = record { body = Cut p.part; made = record { is = (lt, p.cut); ascend = p.ascend; timed = p.timed; alike = λ any differ. absurd (differ first) } }
@@ -123,7 +123,7 @@ module _ (design : Ordered) (request : Request) (models : Models) (is : IsDesign
       like-by (Cut part) cut ascend timed read =
           let first : l ≢ 0 = λ z. absurd (let at = pair.units.0 in omega (arith, at, z)) in
           let second : n ≢ 0 = λ z. absurd (let at = pair.units.2 in omega (arith, at, z)) in
-          let like = like-part design listed hub is keeps apart clocking are l n pair (unit-routed l first) (unit-routed n second) (share n) part cut.1 ascend (timed pair.units.0 pair.units.1) in
+          let like = like-part design listed hub is keeps apart clocking are l n pair (unit-routed l first (let low = pair.units.1 in omega (arith, low))) (unit-routed n second (let low = pair.units.3 in omega (arith, low))) (share n) part cut.1 ascend (timed pair.units.0 pair.units.1) in
           record {
             body = Cut like.part;
             made = record { is = (pair.units.3, like.cut); ascend = like.ascend; timed = λ first high. like.timed; alike = λ any differ. subst (λ (b : Body). AreAlike b (Cut like.part)) (sym (read any)) like.alike };

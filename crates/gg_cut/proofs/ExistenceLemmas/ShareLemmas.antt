@@ -41,9 +41,9 @@ in-turn : (order : List ℕ) → AllPairs (λ a b. Precedes order a b) order
 in-turn order i j d less lt =
     record { first = i; second = j; before = less; within = lt; first_is = get_or_default order i 0 d (omega (arith, less, lt)); second_is = get_or_default order j 0 d lt }
 
-module _ (design : Ordered) (listed : Listed) (is : IsDesign design) (keeps : KeepsToTree design.circuit design.tree) (apart : AreApart design.tree listed) where
+module _ (design : Ordered) (listed : Listed) (entries : List BridgeEntry) (is : IsDesign design) (keeps : KeepsToTree design.circuit design.tree) (apart : AreApart design.tree listed) where
   abbrev wires : List Wire
-  wires = wires_of design.circuit design.tree listed []
+  wires = wires_of design.circuit design.tree listed entries
 
   -- whether a channel carries a signal
   inner : (s : ℕ) → Decided (IsInner wires s)
@@ -63,12 +63,12 @@ module _ (design : Ordered) (listed : Listed) (is : IsDesign design) (keeps : Ke
   abbrev signals_for : ℕ → List ℕ
   signals_for m = filter (λ s. holds (gets m s)) design.order
 
-  signals-for : (m : ℕ) → AreSignals design.circuit design.tree design.order listed [] m (signals_for m)
+  signals-for : (m : ℕ) → AreSignals design.circuit design.tree design.order listed entries m (signals_for m)
   signals-for m =
       record {
         just = λ s. (
           λ h. holds-true (gets m s) (filter-cases (λ t. holds (gets m t)) design.order s h).passes,
-          λ has. Contains-filter (λ t. holds (gets m t)) design.order s (is.ordered.every s (gets-known design.circuit design.tree listed [] is.formed keeps.fitting keeps.scoped apart m s has)) (true-holds (gets m s) has),
+          λ has. Contains-filter (λ t. holds (gets m t)) design.order s (is.ordered.every s (gets-known design.circuit design.tree listed entries is.formed keeps.fitting keeps.scoped apart m s has)) (true-holds (gets m s) has),
         );
         along = AllPairs-filter (λ a b. Precedes design.order a b) (λ s. holds (gets m s)) design.order (in-turn design.order);
       }
@@ -84,10 +84,10 @@ module _ (design : Ordered) (listed : Listed) (is : IsDesign design) (keeps : Ke
 
   share-of : (m : ℕ) → IsShareOf design listed wires m (channels_to wires m) (channels_from wires m) (signals_for m) (memories_for m)
   share-of m =
-      shared design.circuit design.tree design.order listed [] is.formed keeps.fitting keeps.scoped is.ordered apart m (channels_to wires m) (channels_from wires m) (signals_for m) (memories_for m)
+      shared design.circuit design.tree design.order listed entries is.formed keeps.fitting keeps.scoped is.ordered apart m (channels_to wires m) (channels_from wires m) (signals_for m) (memories_for m)
       refl refl (signals-for m) (memories-for m)
 
-  module _ (piped : ℕ → Bool) (entries : List BridgeEntry) (direct : Bool) (are : AreRoutes design listed entries (hub_of design.circuit design.tree listed piped entries direct)) where
+  module _ (piped : ℕ → Bool) (direct : Bool) (are : AreRoutes design listed entries (hub_of design.circuit design.tree listed piped entries direct)) where
     abbrev hub : Hub
     hub = hub_of design.circuit design.tree listed piped entries direct
 
@@ -117,4 +117,4 @@ module _ (design : Ordered) (listed : Listed) (is : IsDesign design) (keeps : Ke
 
 pub plan-share : (design : Ordered) (listed : Listed) (piped : ℕ → Bool) (entries : List BridgeEntry) (direct : Bool) → IsDesign design → KeepsToTree design.circuit design.tree → AreApart design.tree listed → AreRoutes design listed entries (hub_of design.circuit design.tree listed piped entries direct)
     → (m : ℕ) → HasShare design listed (hub_of design.circuit design.tree listed piped entries direct) m
-plan-share design listed piped entries direct is keeps apart are m = share-there design listed is keeps apart piped entries direct are m
+plan-share design listed piped entries direct is keeps apart are m = share-there design listed entries is keeps apart piped direct are m

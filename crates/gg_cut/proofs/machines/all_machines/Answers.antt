@@ -21,7 +21,7 @@ loop-number-init c =
     )
 
 pub body_at-requires-clause-known : goal.body_at-requires-clause-known
-body_at-requires-clause-known c = omega (arith, c.loop-number-test.true, end-is c.args.making.now.draft.now c.requires.draft c.numbering.result c.numbering.ensures c.count.result c.count.ensures)
+body_at-requires-clause-known c = omega (arith, c.loop-number-test.true, end-is c.args.making.now.draft.now c.requires.draft c.numbering.result c.numbering.ensures c.count-number-end.result c.count-number-end.ensures)
 
 pub body_at-requires-clause-machines : goal.body_at-requires-clause-machines
 body_at-requires-clause-machines c =
@@ -29,23 +29,23 @@ body_at-requires-clause-machines c =
     subst (λ (l : List Machine). AreEarlier making.draft.now making.domains.now c.loop-number.number l) (sym c.deref.ensures.value) c.loop-number.invariant.2
 
 pub machine_at-requires-clause-names : goal.machine_at-requires-clause-names
-machine_at-requires-clause-names c = omega (arith, c.loop-number-test.true, end-is c.args.making.now.draft.now c.requires.draft c.numbering.result c.numbering.ensures c.count.result c.count.ensures, c.requires.places.names_many)
+machine_at-requires-clause-names c = omega (arith, c.loop-number-test.true, end-is c.args.making.now.draft.now c.requires.draft c.numbering.result c.numbering.ensures c.count-number-end.result c.count-number-end.ensures, c.requires.places.names_many)
 
 pub machine_at-requires-clause-hosts : goal.machine_at-requires-clause-hosts
-machine_at-requires-clause-hosts c = omega (arith, c.loop-number-test.true, end-is c.args.making.now.draft.now c.requires.draft c.numbering.result c.numbering.ensures c.count.result c.count.ensures, c.requires.places.hosts.numbers_many)
+machine_at-requires-clause-hosts c = omega (arith, c.loop-number-test.true, end-is c.args.making.now.draft.now c.requires.draft c.numbering.result c.numbering.ensures c.count-number-end.result c.count-number-end.ensures, c.requires.places.hosts.numbers_many)
 
 pub machine_at-requires-clause-ins : goal.machine_at-requires-clause-ins
-machine_at-requires-clause-ins c = omega (arith, c.loop-number-test.true, end-is c.args.making.now.draft.now c.requires.draft c.numbering.result c.numbering.ensures c.count.result c.count.ensures, c.requires.places.into.many)
+machine_at-requires-clause-ins c = omega (arith, c.loop-number-test.true, end-is c.args.making.now.draft.now c.requires.draft c.numbering.result c.numbering.ensures c.count-number-end.result c.count-number-end.ensures, c.requires.places.into.many)
 
 pub machine_at-requires-clause-outs : goal.machine_at-requires-clause-outs
-machine_at-requires-clause-outs c = omega (arith, c.loop-number-test.true, end-is c.args.making.now.draft.now c.requires.draft c.numbering.result c.numbering.ensures c.count.result c.count.ensures, c.requires.places.from.many)
+machine_at-requires-clause-outs c = omega (arith, c.loop-number-test.true, end-is c.args.making.now.draft.now c.requires.draft c.numbering.result c.numbering.ensures c.count-number-end.result c.count-number-end.ensures, c.requires.places.from.many)
 
 pub loop-number-preserved : goal.loop-number-preserved
 loop-number-preserved c =
     let making = c.args.making.now in
     let draft = making.draft.now in
     let n = c.loop-number.number in
-    let low : n < draft_end draft = omega (arith, c.loop-number-test.true, end-is c.args.making.now.draft.now c.requires.draft c.numbering.result c.numbering.ensures c.count.result c.count.ensures) in
+    let low : n < draft_end draft = omega (arith, c.loop-number-test.true, end-is c.args.making.now.draft.now c.requires.draft c.numbering.result c.numbering.ensures c.count-number-end.result c.count-number-end.ensures) in
     let made = c.in_ok-made.made in
     let body = c.in_ok-body.body in
     let placed = c.in_ok-made.ensures {u = tt} in
@@ -60,5 +60,5 @@ pub returns : goal.returns
 returns c =
     let making = c.args.making.now in
     let draft = making.draft.now in
-    let done : c.loop-number.number ≡ draft_end draft = omega (arith, c.loop-number-test.false, c.loop-number.auto.number-end, end-is c.args.making.now.draft.now c.requires.draft c.numbering.result c.numbering.ensures c.count.result c.count.ensures) in
+    let done : c.loop-number.number ≡ draft_end draft = omega (arith, c.loop-number-test.false, c.loop-number.auto.number-end, end-is c.args.making.now.draft.now c.requires.draft c.numbering.result c.numbering.ensures c.count-number-end.result c.count-number-end.ensures) in
     machines-made draft.design.now draft.request.now draft.models.now draft.listed (draft_hub draft) making.domains.now.units c.requires.draft.faultless c.loop-number.machines.items (subst (λ k. AreEarlier draft making.domains.now k c.loop-number.machines.items) done c.loop-number.invariant.2) (end-few c.args.making.now.draft.now c.requires.draft)

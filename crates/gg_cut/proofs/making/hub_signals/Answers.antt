@@ -3,6 +3,8 @@ use Rattle.std.specs.Prelude.{All, filter}
 use Rattle.std.proofs.lemmas.List.{get_or_default}
 use Rattle.gg_flat.specs.Circuit.{FlatCircuit}
 use Rattle.gg_cut_plan.specs.declared.wires.Wire.{Wire}
+use Rattle.gg_cut_plan.specs.Ports.{ports_of}
+use Rattle.gg_cut_plan.proofs.PortLemmas.{machine-high}
 use Rattle.gg_cut_split.specs.declared.share.Share.{Share}
 use Rattle.gg_cut_routes.specs.inside.Share.{stays_by}
 use Rattle.gg_cut.proofs.ShareLemmas.{hub-known}

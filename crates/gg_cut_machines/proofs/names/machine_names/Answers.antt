@@ -5,7 +5,7 @@ use Rattle.gg_partfile.specs.declared.request.BridgeEntry.{BridgeEntry}
 use Rattle.gg_cut_plan.specs.declared.listed.Listed.{Listed}
 use Rattle.gg_cut_plan.specs.Ports.{open_ins, open_outs, output_count, ports_of, undriven, unseen}
 use Rattle.gg_cut_split.specs.inside.Ends.{at_places}
-use Rattle.gg_cut_machines.proofs.NameLemmas.{ins-open, names-joined, names-same, outs-open, ports-named}
+use Rattle.gg_cut_machines.proofs.NameLemmas.{ins-open, names-joined, names-same, open-few, outs-open, ports-named}
 use Rattle.gg_cut_machines.proofs.names.machine_names.Goals as goal
 
 take-front : (xs ys : List ℕ) (n : ℕ) → n ≡ length xs → take n (xs ++ ys) ≡ xs
@@ -30,7 +30,7 @@ returns c =
     let many = ap length c.stops.ensures ∙ ap (λ (t : InstanceTree). length t.stops) c.tree-tree.ensures.tree in
     let left = length-drop (output_count design) design.circuit.outs in
     let outputs : c.saturating_sub-outputs.result ≡ length (open_outs design.circuit (output_count design) request) =
-    omega (arith, c.saturating_sub-outputs.ensures, ap length outs, length-append (open_outs design.circuit (output_count design) request) (drop (output_count design) design.circuit.outs), many, left) in
+    omega (arith, c.saturating_sub-outputs.ensures, ap length outs, length-append (open_outs design.circuit (output_count design) request) (drop (output_count design) design.circuit.outs), many, left, open-few design request) in
     names-joined c.in_ok-hub.hub _ _ _ _ _ _ c.push_units.new.names.items c.push_memories.new.names.items c.push_ports.new.names.items c.push_ports-2.new.names.items c.push_ports-3.new.names.items c.push_bridges.new.names.items c.push.new.self.items
     (c.in_ok-push.ensures.items ∙ ap (λ l. l ++ c.in_ok-hub.hub ∷ []) c.new-names.ensures.items) c.in_ok-push_units.ensures c.in_ok-push_memories.ensures c.in_ok-push_ports.ensures c.in_ok-push_ports-2.ensures c.in_ok-push_ports-3.ensures c.in_ok-push_bridges.ensures
     ∙ names-same c.in_ok-hub.hub (codes "hub:") _ _ _ _ _ _ _ _ _ _ _ _ (c.in_ok-hub.ensures {u = tt}) c.as_slice-units.ensures
