@@ -178,11 +178,11 @@ module _ (design : Ordered) (request : Request) (models : Models) (default : ℕ
   tops = λ k d lt. (k, ap (driver_at design.circuit) (get_or_default design.circuit.ins k d 0 lt) ∙ (is.formed.ins k lt).1)
 
   producer-below : (w : Wire) → Contains (plan_hub design.circuit design.tree request).base w → ¬ IsTop design.circuit w.signal → w.producer < first_source (listed_of design.tree request)
-  producer-below w h inner = by (Contains-append_cases (numbered (input_wires (ports_of design.circuit design.tree listed [])) 0 design.circuit.ins) (rest_wires design.circuit design.tree listed []) w h)
+  producer-below w h inner = by (Contains-append_cases (numbered (input_wires (ports_of design.circuit design.tree listed request.bridges)) 0 design.circuit.ins) (rest_wires design.circuit design.tree listed request.bridges) w h)
     where
-      by : Contains (numbered (input_wires (ports_of design.circuit design.tree (listed_of design.tree request) [])) 0 design.circuit.ins) w ⊎ Contains (rest_wires design.circuit design.tree (listed_of design.tree request) []) w → w.producer < first_source (listed_of design.tree request)
-      by (inl a) = absurd (inner (each-at (λ w. IsTop design.circuit w.signal) (numbered (input_wires (ports_of design.circuit design.tree listed [])) 0 design.circuit.ins) (inputs-top design.circuit (ports_of design.circuit design.tree listed []) 0 design.circuit.ins tops) w a))
-      by (inr a) = each-at (λ w. w.producer < first_source (listed_of design.tree request)) (rest_wires design.circuit design.tree listed []) (rest-below design.circuit design.tree listed []) w a
+      by : Contains (numbered (input_wires (ports_of design.circuit design.tree (listed_of design.tree request) request.bridges)) 0 design.circuit.ins) w ⊎ Contains (rest_wires design.circuit design.tree (listed_of design.tree request) request.bridges) w → w.producer < first_source (listed_of design.tree request)
+      by (inl a) = absurd (inner (each-at (λ w. IsTop design.circuit w.signal) (numbered (input_wires (ports_of design.circuit design.tree listed request.bridges)) 0 design.circuit.ins) (inputs-top design.circuit (ports_of design.circuit design.tree listed request.bridges) 0 design.circuit.ins tops) w a))
+      by (inr a) = each-at (λ w. w.producer < first_source (listed_of design.tree request)) (rest_wires design.circuit design.tree listed request.bridges) (rest-below design.circuit design.tree listed request.bridges) w a
 
   not-top : (s r : ℕ) → driver_at design.circuit s ≡ Held r → ¬ IsTop design.circuit s
   not-top s r e top = by (sym top.1 ∙ e)
